@@ -4,6 +4,7 @@ use mathlib.Core.List.{List, [], _∷_, _++_}
 use Prim.Native.Nat.{ℕ, _≤_, _<_}
 use native.Mathlib.Omega.{arith}
 use lib.ListN.{length, take, drop}
+use Rattle.std.proofs.shelf.Lists.{append-assoc, drop-append-le, take-append-drop}
 use Rattle.source.specs.declared.ends.Fault.{Fault}
 use Rattle.source.specs.declared.ends.End.{End}
 use Rattle.source.specs.declared.ends.End.the-variants.{Clean, Faulty}
@@ -71,3 +72,46 @@ told-by (y ∷ ys) e (b ∷ bs) k x m′ buffer′ r = absurd (not-gave x k (ap 
 
 pub told : (m : Meaning) (buffer : Bytes) (e : End) (m′ : Meaning) (buffer′ : Bytes) → Pulls m buffer (answer (Ended e)) m′ buffer′ → Told m buffer e m′ buffer′
 told m buffer e m′ buffer′ p = told-by (m .coming) (m .ending) buffer (p .chosen) e m′ buffer′ (p .result)
+
+-- The other way: what makes a pull lawful.
+gives-by : (s : Bytes) (e : End) (buffer : Bytes) (n : ℕ) (m′ : Meaning) (buffer′ : Bytes) → 0 < length buffer → Given (means s e) buffer n m′ buffer′
+    → _≡_ {A = Answer × Meaning × Bytes} (gave n, m′, buffer′) (pulled n s e buffer)
+gives-by s e [] n m′ buffer′ h g = absurd (omega arith)
+gives-by [] e (b ∷ bs) n m′ buffer′ h g = absurd (let some = g .some h in let none = g .comes in omega arith)
+gives-by (x ∷ xs) e (b ∷ bs) n m′ buffer′ h g = let a = g .after in let f = g .filled in cc
+
+pub gives : (m : Meaning) (buffer : Bytes) (n : ℕ) (m′ : Meaning) (buffer′ : Bytes) → 0 < length buffer → Given m buffer n m′ buffer′ → Pulls m buffer (answer (Gave n)) m′ buffer′
+gives m buffer n m′ buffer′ h g =
+    record {
+      chosen = n;
+      lawful = record { comes = g .comes; fits = g .fits; some = λ s r. g .some h };
+      result = gives-by (m .coming) (m .ending) buffer n m′ buffer′ h g }
+
+tells-by : (s : Bytes) (e : End) (buffer : Bytes) (m′ : Meaning) (buffer′ : Bytes) → Told (means s e) buffer e m′ buffer′
+    → _≡_ {A = Answer × Meaning × Bytes} (ended e, m′, buffer′) (pulled 0 s e buffer)
+tells-by s e [] m′ buffer′ t = absurd (let h = t .asked in omega arith)
+tells-by [] e (b ∷ bs) m′ buffer′ t = let a = t .after in let k = t .kept in cc
+tells-by (x ∷ xs) e (b ∷ bs) m′ buffer′ t = absurd (omega (arith, ap length (t .none)))
+
+pub tells : (m : Meaning) (buffer : Bytes) (x : End) (m′ : Meaning) (buffer′ : Bytes) → Told m buffer x m′ buffer′ → Pulls m buffer (answer (Ended x)) m′ buffer′
+tells m buffer x m′ buffer′ t =
+    let z : length (m .coming) ≡ 0 = ap length (t .none) in
+    record {
+      chosen = 0;
+      lawful = record { comes = omega arith; fits = omega arith; some = λ s r. absurd (omega arith) };
+      result =
+        ap (λ (e : End). (ended e, m′, buffer′)) (t .is)
+        ∙ tells-by (m .coming) (m .ending) buffer m′ buffer′ (record { asked = t .asked; none = t .none; is = refl; after = t .after; kept = t .kept }) }
+
+pub waits : (m : Meaning) (buffer : Bytes) → length buffer ≡ 0 → Pulls m buffer (answer (Gave 0)) m buffer
+waits m [] z = record { chosen = 0; lawful = record { comes = omega arith; fits = omega arith; some = λ s r. absurd (omega arith) }; result = refl }
+waits m (b ∷ bs) z = absurd (omega arith)
+
+-- A pull into a buffer's front, seen from the whole buffer.
+pub front-filled : (k n : ℕ) (d buffer front : Bytes) → n ≤ length (take k buffer) → front ≡ d ++ drop n (take k buffer) → front ++ drop k buffer ≡ d ++ drop n buffer
+front-filled k n d buffer front le e =
+    ap (λ (l : Bytes). l ++ drop k buffer) e ∙ append-assoc d (drop n (take k buffer)) (drop k buffer)
+    ∙ ap (λ (l : Bytes). d ++ l) (sym (drop-append-le n (take k buffer) (drop k buffer) le) ∙ ap (drop n) (take-append-drop k buffer))
+
+pub front-kept : (k : ℕ) (buffer front : Bytes) → front ≡ take k buffer → front ++ drop k buffer ≡ buffer
+front-kept k buffer front e = ap (λ (l : Bytes). l ++ drop k buffer) e ∙ take-append-drop k buffer

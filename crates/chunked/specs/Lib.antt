@@ -1,0 +1,3 @@
+pub mod Framing
+pub mod Reading
+pub mod Written
