@@ -9,7 +9,8 @@ use lib.ListN.{length, take, drop, getD}
 use Rattle.std.proofs.shelf.Lists.{length-append, take-at, drop-at}
 use Rattle.std.proofs.shelf.Tests.{lt-ltb, le-ltb}
 use Rattle.source.specs.declared.ends.End.{End}
-use Rattle.source.specs.Meanings.{Bytes, Meaning, means}
+use Rattle.bytes.specs.Bytes.{Bytes}
+use Rattle.source.specs.Meanings.{Meaning, means}
 use Rattle.source.proofs.Pulling.{Given, Told}
 use Rattle.chunked.specs.declared.places.Place.{Place}
 use Rattle.chunked.specs.declared.places.Place.the-variants.{Data}

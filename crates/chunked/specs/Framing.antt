@@ -5,10 +5,11 @@ use Prim.Native.Nat.{ℕ, zero, suc, _+_, _*_}
 use lib.Dec.{eqb, ltb, leb}
 use Rattle.std.specs.declared.option.Option.{Option}
 use Rattle.std.specs.declared.option.Option.the-variants.{Some, None}
-use Rattle.ascii.specs.Classes.{blank, hex}
+use Rattle.bytes.specs.Classes.{blank, hex}
 use Rattle.source.specs.declared.ends.End.{End}
 use Rattle.source.specs.declared.ends.End.the-variants.{Clean, Faulty}
-use Rattle.source.specs.Meanings.{Bytes, fault}
+use Rattle.bytes.specs.Bytes.{Bytes}
+use Rattle.source.specs.Meanings.{fault}
 use Rattle.chunked.specs.declared.places.Place.{Place}
 use Rattle.chunked.specs.declared.places.Place.the-variants.{Size, Extension, SizeEnd, Data, DataEnd, Trailer, TrailerEmpty, TrailerText, TrailerEnd}
 use Rattle.chunked.specs.declared.places.Step.{Step}

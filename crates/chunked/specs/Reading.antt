@@ -2,7 +2,8 @@
 use mathlib.Core.Bool.{Bool, true, false}
 use Prim.Native.Nat.{ℕ, _+_}
 use lib.ListN.{length}
-use Rattle.source.specs.Meanings.{Bytes, Meaning, means}
+use Rattle.bytes.specs.Bytes.{Bytes}
+use Rattle.source.specs.Meanings.{Meaning, means}
 use Rattle.chunked.specs.declared.reader.Chunked.{Chunked}
 use Rattle.chunked.specs.declared.places.Step.{Step}
 use Rattle.chunked.specs.declared.places.Step.the-variants.{Goes, Ends}

@@ -9,10 +9,11 @@ use Rattle.std.specs.Joined.{joined}
 use Rattle.std.specs.shelf.Lists.{All}
 use Rattle.std.specs.declared.option.Option.{Option}
 use Rattle.std.specs.declared.option.Option.the-variants.{Some, None}
-use Rattle.ascii.specs.Classes.{blank, hex}
+use Rattle.bytes.specs.Classes.{blank, hex}
 use Rattle.source.specs.declared.ends.End.{End}
 use Rattle.source.specs.declared.ends.End.the-variants.{Clean, Faulty}
-use Rattle.source.specs.Meanings.{Bytes, fault}
+use Rattle.bytes.specs.Bytes.{Bytes}
+use Rattle.source.specs.Meanings.{fault}
 use Rattle.chunked.specs.Framing.{Framed, unframed, largest, limit}
 
 abbrev pub crlf : Bytes

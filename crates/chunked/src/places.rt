@@ -2,7 +2,7 @@ ghost use mathlib.Core.Path.{_≡_};
 ghost use Prim.Native.Nat.{_*_, _<_, _+_};
 ghost use Rattle.std.specs.declared.option.Option.the-variants.{Some, None};
 ghost use Rattle.chunked.specs.Framing.{digit as digitStep, behindDigits, inData, inExtension, chunk as chunkPlace, early as earlyEnd, sizeFault, dataFault, step};
-use ascii::hex_value;
+use bytes::hex_value;
 use source::End;
 use source::Fault;
 

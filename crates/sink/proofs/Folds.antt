@@ -7,7 +7,8 @@ use lib.ListN.{length, take, drop, set}
 use Rattle.std.specs.Iters.{folded}
 use Rattle.std.proofs.shelf.Tests.{le-leb}
 use Rattle.std.proofs.shelf.Lists.{drop-set-lt, drop-drop, drop-all, length-append, append-nil, append-assoc}
-use Rattle.sink.specs.Meanings.{Answer, Bytes, Meaning, stepped, taken}
+use Rattle.bytes.specs.Bytes.{Answer, Bytes}
+use Rattle.sink.specs.Meanings.{Meaning, stepped, taken}
 use Rattle.sink.specs.Values.{written}
 
 -- a write at the seam: what lies past it loses its first byte

@@ -8,15 +8,9 @@ use lib.ListN.{length, drop}
 use Rattle.std.specs.Iters.{folded}
 use Rattle.std.specs.declared.result.Result.{Result}
 use Rattle.std.specs.declared.result.Result.the-variants.{Ok, Err}
+use Rattle.bytes.specs.Bytes.{Bytes, Answer}
 use Rattle.sink.specs.declared.sinks.Refusal.{Refusal}
 use Rattle.sink.specs.declared.sinks.Refusal.the-variants.{Full}
-
-abbrev pub Bytes : Type 0
-Bytes = List ℕ
-
--- an enum's answer: its number, and its values
-abbrev pub Answer : Type 0
-Answer = ℕ × List ℕ
 
 -- what a sink means: a value of its own kind, the step by which a byte changes it, and the space;
 -- and of memory that was lent to it, what it has not written yet, and the names of the references, which stay

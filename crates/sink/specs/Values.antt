@@ -6,7 +6,8 @@ use lib.Bits.{bitXor}
 use lib.ListN.{length, take, drop}
 use Rattle.sink.specs.declared.store.Store.{Store}
 use Rattle.sink.specs.declared.tally.Tally.{Tally}
-use Rattle.sink.specs.Meanings.{Bytes, Meaning}
+use Rattle.bytes.specs.Bytes.{Bytes}
+use Rattle.sink.specs.Meanings.{Meaning}
 
 -- a store's step: the byte behind those written
 abbrev pub written : Bytes → ℕ → Bytes

@@ -8,7 +8,8 @@ use lib.ListN.{length, take, drop, getD}
 use Rattle.std.specs.Joined.{joined}
 use Rattle.std.proofs.shelf.Lists.{take-append-drop, take-all, drop-all, drop-more, drop-take, drop-drop, length-take, nil-from-length}
 use Rattle.std.proofs.shelf.Tests.{cases-lt}
-use Rattle.source.specs.Meanings.{Bytes, Answer, gave, ended}
+use Rattle.bytes.specs.Bytes.{Bytes, Answer}
+use Rattle.source.specs.Meanings.{gave, ended}
 use Rattle.source.specs.declared.ends.End.the-variants.{Clean}
 use Rattle.source.specs.Slices.{before, cut, portion}
 

@@ -9,7 +9,8 @@ use Rattle.source.specs.declared.ends.Fault.{Fault}
 use Rattle.source.specs.declared.ends.End.{End}
 use Rattle.source.specs.declared.ends.End.the-variants.{Clean, Faulty}
 use Rattle.source.specs.declared.sources.Pulled.the-variants.{Gave, Ended}
-use Rattle.source.specs.Meanings.{Bytes, Answer, Meaning, MayGive, means, Pulls, answer, gave, ended, fault, pulled}
+use Rattle.bytes.specs.Bytes.{Bytes, Answer}
+use Rattle.source.specs.Meanings.{Meaning, MayGive, means, Pulls, answer, gave, ended, fault, pulled}
 
 -- it gave n bytes
 pub record Given (m : Meaning) (buffer : Bytes) (n : ℕ) (m′ : Meaning) (buffer′ : Bytes) : Type 0 where

@@ -3,18 +3,12 @@ use Prim.Native.Nat.{ℕ, _≤_, _<_}
 use mathlib.Core.Path.{_≡_}
 use mathlib.Core.List.{List, [], _∷_, _++_}
 use lib.ListN.{length, take, drop}
+use Rattle.bytes.specs.Bytes.{Bytes, Answer}
 use Rattle.source.specs.declared.ends.Fault.{Fault}
 use Rattle.source.specs.declared.ends.End.{End}
 use Rattle.source.specs.declared.ends.End.the-variants.{Clean, Faulty}
 use Rattle.source.specs.declared.sources.Pulled.{Pulled}
 use Rattle.source.specs.declared.sources.Pulled.the-variants.{Gave, Ended}
-
-abbrev pub Bytes : Type 0
-Bytes = List ℕ
-
--- an enum's answer: its number, and its values
-abbrev pub Answer : Type 0
-Answer = ℕ × List ℕ
 
 abbrev pub fault : (number layer place : ℕ) → Fault
 fault n l p = record { number = n; layer = l; place = p }

@@ -6,7 +6,8 @@ use denote.Ref.{now}
 use Rattle.source.specs.declared.block.Block.{Block}
 use Rattle.source.specs.declared.parcels.Parcels.{Parcels}
 use Rattle.source.specs.declared.ends.End.the-variants.{Clean}
-use Rattle.source.specs.Meanings.{Bytes, Answer, Meaning, means, gave, ended}
+use Rattle.bytes.specs.Bytes.{Bytes, Answer}
+use Rattle.source.specs.Meanings.{Meaning, means, gave, ended}
 
 -- all of a slice, then a clean end
 abbrev pub blockMeaning : Block → Meaning

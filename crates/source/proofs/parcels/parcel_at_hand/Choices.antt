@@ -1,6 +1,6 @@
 use mathlib.Core.Path.{_≡_}
 use lib.ListN.{drop}
-use Rattle.source.specs.Meanings.{Bytes}
+use Rattle.bytes.specs.Bytes.{Bytes}
 use Rattle.source.specs.Slices.{cut}
 use Rattle.source.proofs.parcels.parcel_at_hand.Given as given
 

@@ -1,7 +1,7 @@
 use mathlib.Core.Path.{refl, ap, _∙_}
 use mathlib.Core.List.{_∷_}
 use Rattle.std.specs.Joined.{joined}
-use Rattle.source.specs.Meanings.{Bytes}
+use Rattle.bytes.specs.Bytes.{Bytes}
 use Rattle.source.proofs.Cuts.{cut-zero, joined-cut}
 use Rattle.source.proofs.parcels.Parcels.new.Needs as need
 

@@ -1,6 +1,6 @@
 //! Classes of bytes that several grammars share.
 ghost use mathlib.Core.Path.{_≡_};
-ghost use Rattle.ascii.specs.Classes.{hex};
+ghost use Rattle.bytes.specs.Classes.{hex};
 
 /// The value of a hexadecimal digit of either case.
 pub fn hex_value(b: u8) -> Option<u8>
