@@ -99,7 +99,8 @@ first-of (x ∷ xs) e n m′ buffer′ g =
     record {
       rest = xs;
       first = ap (λ (y : ℕ). y ∷ xs) (sym (ap (λ (l : Bytes). getD l 0 0) filled));
-      after = g .after ∙ ap (λ (k : ℕ). means (drop k (x ∷ xs)) e) one }
+      after = g .after ∙ ap (λ (k : ℕ). means (drop k (x ∷ xs)) e) one;
+    }
 
 pub first-byte : (m : Meaning) (n : ℕ) (m′ : Meaning) (buffer′ : Bytes) → Given m (0 ∷ []) n m′ buffer′ → FirstByte (m .coming) (m .ending) m′ (getD buffer′ 0 0)
 first-byte m n m′ buffer′ g = first-of (m .coming) (m .ending) n m′ buffer′ g
@@ -143,7 +144,8 @@ gives-front f f′ d n buffer buffer′ e l fits some filled =
       fits = fits;
       some = λ h. some;
       after = ap (λ (t : Bytes). means t (f′ .ending)) (sym back ∙ ap (drop n) (sym bytes)) ∙ ap (means (drop n (f .bytes))) (sym ending);
-      filled = filled ∙ ap (λ (t : Bytes). t ++ drop n buffer) (sym front ∙ ap (take n) (sym bytes)) }
+      filled = filled ∙ ap (λ (t : Bytes). t ++ drop n buffer) (sym front ∙ ap (take n) (sym bytes));
+    }
 
 -- the end is all that is to come
 pub tells-end : (f f′ : Framed) (e : End) (at : ℕ) (s buffer buffer′ : Bytes) → f ≡ stops e at s → f′ ≡ f → 0 < length buffer → buffer′ ≡ buffer → Told (unframes f) buffer e (unframes f′) buffer′

@@ -128,7 +128,7 @@ abbrev pub Data-fault-place : Type 0
 Data-fault-place =
     (s : Bytes) (place : ℕ) → unframed s Clean .ending ≡ Faulty (fault 23 2 place)
     → (cs : List Chunk) × ((c : Chunk) × (All IsChunk cs × (IsChunk c
-        × ((take place s ≡ writtenChunks cs ++ (writtenLine (c .line) ++ c .content)) × (unframed s Clean .bytes ≡ contents cs ++ c .content)))))
+    × ((take place s ≡ writtenChunks cs ++ (writtenLine (c .line) ++ c .content)) × (unframed s Clean .bytes ≡ contents cs ++ c .content)))))
 
 -- what is taken and what is left are all that was to come
 abbrev pub Nothing-lost : Type 0

@@ -42,13 +42,21 @@ pub(crate) enum Step {
 fn size_fault(line: u32) -> Step
     ensures { λ r. ⌜ r ≡ sizeFault line ⌝ }
 {
-    Step::Ends(End::Faulty(Fault { number: 21, layer: 2, place: line }))
+    Step::Ends(End::Faulty(Fault {
+        number: 21,
+        layer: 2,
+        place: line,
+    }))
 }
 
 fn data_fault(place: u32) -> Step
     ensures { λ r. ⌜ r ≡ dataFault place ⌝ }
 {
-    Step::Ends(End::Faulty(Fault { number: 23, layer: 2, place }))
+    Step::Ends(End::Faulty(Fault {
+        number: 23,
+        layer: 2,
+        place,
+    }))
 }
 
 /// The end of the framing where below ends too early.
@@ -56,7 +64,11 @@ pub(crate) fn early(at: u32, below: End) -> End
     ensures { λ r. ⌜ r ≡ earlyEnd at below ⌝ }
 {
     match below {
-        End::Clean => End::Faulty(Fault { number: 24, layer: 2, place: at }),
+        End::Clean => End::Faulty(Fault {
+            number: 24,
+            layer: 2,
+            place: at,
+        }),
         End::Faulty(fault) => End::Faulty(fault),
     }
 }
@@ -66,7 +78,11 @@ fn in_digits(line: u32, digits: u32, value: u32, d: u8) -> Step
 {
     let value = value as u64 * 16 + d as u64;
     if digits < 8 && value <= LARGEST as u64 {
-        Step::Goes(Place::Size { line, digits: digits + 1, value: value as u32 })
+        Step::Goes(Place::Size {
+            line,
+            digits: digits + 1,
+            value: value as u32,
+        })
     } else {
         size_fault(line)
     }
@@ -109,7 +125,11 @@ fn in_data(left: u32, at: u32, b: u8) -> Step
 fn chunk(size: u32) -> Place
     ensures { λ r. ⌜ r ≡ chunkPlace size ⌝ }
 {
-    if size == 0 { Place::Trailer } else { Place::Data { left: size } }
+    if size == 0 {
+        Place::Trailer
+    } else {
+        Place::Data { left: size }
+    }
 }
 
 /// What the byte b, the one at the offset `at`, does at a place.
@@ -118,7 +138,11 @@ pub(crate) fn step_at(place: Place, at: u32, b: u8) -> Step
     ensures { λ r. ⌜ r ≡ step place at b ⌝ }
 {
     match place {
-        Place::Size { line, digits, value } => match hex_value(b) {
+        Place::Size {
+            line,
+            digits,
+            value,
+        } => match hex_value(b) {
             Some(d) => in_digits(line, digits, value, d),
             None => behind_digits(line, digits, value, b),
         },
@@ -129,7 +153,11 @@ pub(crate) fn step_at(place: Place, at: u32, b: u8) -> Step
         },
         Place::Data { left } => in_data(left, at, b),
         Place::DataEnd { place } => match b {
-            b'\n' => Step::Goes(Place::Size { line: at + 1, digits: 0, value: 0 }),
+            b'\n' => Step::Goes(Place::Size {
+                line: at + 1,
+                digits: 0,
+                value: 0,
+            }),
             _ => data_fault(place),
         },
         Place::Trailer => match b {

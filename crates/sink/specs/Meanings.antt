@@ -29,7 +29,8 @@ stepped m bs =
       step = m .step;
       space = m .space - length bs;
       unwritten = drop (length bs) (m .unwritten);
-      lent = m .lent }
+      lent = m .lent;
+    }
 
 -- 5: more bytes than space
 abbrev pub refusal : Refusal → Answer

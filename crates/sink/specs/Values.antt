@@ -21,7 +21,8 @@ storeMeaning s =
       step = written;
       space = min (length (now (s .buffer))) 16777216 - s .used;
       unwritten = drop (s .used) (now (s .buffer));
-      lent = name (s .buffer) ∷ [] }
+      lent = name (s .buffer) ∷ [];
+    }
 
 -- a count, and the FNV-1a sum of 32 bits
 pub record Count : Type 0 where
@@ -42,4 +43,5 @@ tallyMeaning t =
       step = counted;
       space = 4294967295 - t .count;
       unwritten = [];
-      lent = [] }
+      lent = [];
+    }

@@ -22,11 +22,12 @@ pub struct Store<'a> {
 impl<'a> Store<'a> {
     pub fn new(buffer: &'a mut [u8]) -> Self
         ensures { λ r. ⌜ storeMeaning r ≡ record {
-            value = [];
-            step = writtenStep;
-            space = min (length (now (buffer .entry))) 16777216;
-            unwritten = now (buffer .entry);
-            lent = name (buffer .entry) ∷ [] } ⌝ }
+          value = [];
+          step = writtenStep;
+          space = min (length (now (buffer .entry))) 16777216;
+          unwritten = now (buffer .entry);
+          lent = name (buffer .entry) ∷ [];
+        } ⌝ }
     {
         Store { buffer, used: 0 }
     }

@@ -15,7 +15,10 @@ impl Tally {
     pub fn new() -> Self
         ensures { λ r. ⌜ tallyMeaning r ≡ record { value = none; step = counted; space = 4294967295; unwritten = []; lent = [] } ⌝ }
     {
-        Tally { count: 0, sum: 2_166_136_261 }
+        Tally {
+            count: 0,
+            sum: 2_166_136_261,
+        }
     }
 
     /// How many bytes were taken.

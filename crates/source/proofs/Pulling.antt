@@ -86,7 +86,8 @@ gives m buffer n m′ buffer′ h g =
     record {
       chosen = n;
       lawful = record { comes = g .comes; fits = g .fits; some = λ s r. g .some h };
-      result = gives-by (m .coming) (m .ending) buffer n m′ buffer′ h g }
+      result = gives-by (m .coming) (m .ending) buffer n m′ buffer′ h g;
+    }
 
 tells-by : (s : Bytes) (e : End) (buffer : Bytes) (m′ : Meaning) (buffer′ : Bytes) → Told (means s e) buffer e m′ buffer′
     → _≡_ {A = Answer × Meaning × Bytes} (ended e, m′, buffer′) (pulled 0 s e buffer)
@@ -101,8 +102,9 @@ tells m buffer x m′ buffer′ t =
       chosen = 0;
       lawful = record { comes = omega arith; fits = omega arith; some = λ s r. absurd (omega arith) };
       result =
-        ap (λ (e : End). (ended e, m′, buffer′)) (t .is)
-        ∙ tells-by (m .coming) (m .ending) buffer m′ buffer′ (record { asked = t .asked; none = t .none; is = refl; after = t .after; kept = t .kept }) }
+          ap (λ (e : End). (ended e, m′, buffer′)) (t .is)
+          ∙ tells-by (m .coming) (m .ending) buffer m′ buffer′ (record { asked = t .asked; none = t .none; is = refl; after = t .after; kept = t .kept });
+    }
 
 pub waits : (m : Meaning) (buffer : Bytes) → length buffer ≡ 0 → Pulls m buffer (answer (Gave 0)) m buffer
 waits m [] z = record { chosen = 0; lawful = record { comes = omega arith; fits = omega arith; some = λ s r. absurd (omega arith) }; result = refl }

@@ -30,7 +30,11 @@ impl<'a> Parcels<'a> {
         ensures parcels { λ r. ⌜ parcelsLeft r ≡ cut (now (lengths .entry)) (now (bytes .entry)) ⌝ }
         ensures whole { λ r. ⌜ joined (λ (p : Bytes). p) (parcelsLeft r) ≡ now (bytes .entry) ⌝ }
     {
-        Parcels { rest: bytes, left: 0, lengths }
+        Parcels {
+            rest: bytes,
+            left: 0,
+            lengths,
+        }
     }
 }
 

@@ -1,7 +1,7 @@
 ghost use Rattle.source.specs.Meanings.{Meaning, Pulls, answer};
-use crate::ends::End;
 use crate::EndDebug;
 use crate::EndPartialEq;
+use crate::ends::End;
 
 /// What a pull answers: how many bytes it gave, or how the source ends.
 #[derive(Clone, Copy, PartialEq, Eq, Debug)]

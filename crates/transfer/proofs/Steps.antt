@@ -33,20 +33,20 @@ moved {V} s e k n comes fits =
     let d = length-drop n s in
     ⊎-elim
     (λ h.
-        let both = stepped-append k (take n s) (drop n s) ∙ ap (stepped k) (take-append-drop n s) in
-        drained-short (means (drop n s) e) (stepped k (take n s)) (omega arith)
-        ∙ ap (λ (z : Sink V). (ended e, means [] e, z)) both ∙ sym (drained-short (means s e) k h))
+    let both = stepped-append k (take n s) (drop n s) ∙ ap (stepped k) (take-append-drop n s) in
+    drained-short (means (drop n s) e) (stepped k (take n s)) (omega arith)
+    ∙ ap (λ (z : Sink V). (ended e, means [] e, z)) both ∙ sym (drained-short (means s e) k h))
     (λ h.
-        let rest : k .space - length (take n s) ≡ k .space - n = omega arith in
-        let whole : n + (k .space - n) ≡ k .space = omega arith in
-        let back : drop (k .space - length (take n s)) (drop n s) ≡ drop (k .space) s =
-            ap (λ (j : ℕ). drop j (drop n s)) rest ∙ drop-drop (k .space - n) n s ∙ ap (λ (j : ℕ). drop j s) whole in
-        let front : take n s ++ take (k .space - length (take n s)) (drop n s) ≡ take (k .space) s =
-            ap (λ (j : ℕ). take n s ++ take j (drop n s)) rest ∙ sym (take-add n (k .space - n) s) ∙ ap (λ (j : ℕ). take j s) whole in
-        let both = stepped-append k (take n s) (take (k .space - length (take n s)) (drop n s)) ∙ ap (stepped k) front in
-        drained-full (means (drop n s) e) (stepped k (take n s)) (omega arith)
-        ∙ ap (λ (z : Bytes). ((5, []), means z e, stepped (stepped k (take n s)) (take (k .space - length (take n s)) (drop n s)))) back
-        ∙ ap (λ (z : Sink V). ((5, []), means (drop (k .space) s) e, z)) both ∙ sym (drained-full (means s e) k h))
+    let rest : k .space - length (take n s) ≡ k .space - n = omega arith in
+    let whole : n + (k .space - n) ≡ k .space = omega arith in
+    let back : drop (k .space - length (take n s)) (drop n s) ≡ drop (k .space) s =
+    ap (λ (j : ℕ). drop j (drop n s)) rest ∙ drop-drop (k .space - n) n s ∙ ap (λ (j : ℕ). drop j s) whole in
+    let front : take n s ++ take (k .space - length (take n s)) (drop n s) ≡ take (k .space) s =
+    ap (λ (j : ℕ). take n s ++ take j (drop n s)) rest ∙ sym (take-add n (k .space - n) s) ∙ ap (λ (j : ℕ). take j s) whole in
+    let both = stepped-append k (take n s) (take (k .space - length (take n s)) (drop n s)) ∙ ap (stepped k) front in
+    drained-full (means (drop n s) e) (stepped k (take n s)) (omega arith)
+    ∙ ap (λ (z : Bytes). ((5, []), means z e, stepped (stepped k (take n s)) (take (k .space - length (take n s)) (drop n s)))) back
+    ∙ ap (λ (z : Sink V). ((5, []), means (drop (k .space) s) e, z)) both ∙ sym (drained-full (means s e) k h))
     (cases-lt (length s) (k .space))
 
 -- nothing is to come, and there is space
@@ -71,7 +71,7 @@ took {V} m m′ x x′ a k n buffer front g space long e =
     let n≤k : n ≤ k = omega (arith, g .fits) in
     let z : n - 0 ≡ n = omega arith in
     let bytes : take (n - 0) (front ++ drop k buffer) ≡ take n (m .coming) =
-        ap (λ (j : ℕ). take j (front ++ drop k buffer)) z ∙ ap (take n) (front-filled k n (take n (m .coming)) buffer front (g .fits) (g .filled)) ∙ take-at (take n (m .coming)) (drop n buffer) n l in
+    ap (λ (j : ℕ). take j (front ++ drop k buffer)) z ∙ ap (take n) (front-filled k n (take n (m .coming)) buffer front (g .fits) (g .filled)) ∙ take-at (take n (m .coming)) (drop n buffer) n l in
     let fits : length (take n (m .coming)) ≤ x .space = omega arith in
     let after : x′ ≡ stepped x (take n (m .coming)) = ap (λ p. p .1) (e ∙ ap (taken x) bytes ∙ taken-all x (take n (m .coming)) fits) in
     ap (λ (y : Source). drained y x′) (g .after) ∙ ap (drained (means (drop n (m .coming)) (m .ending))) after

@@ -25,7 +25,11 @@ const LIMIT: u32 = 33_554_432;
 fn overrun() -> End
     ensures { λ r. ⌜ r ≡ overrunEnd ⌝ }
 {
-    End::Faulty(Fault { number: 26, layer: 2, place: LIMIT })
+    End::Faulty(Fault {
+        number: 26,
+        layer: 2,
+        place: LIMIT,
+    })
 }
 
 impl<S: Source> Chunked<S> {
@@ -33,8 +37,16 @@ impl<S: Source> Chunked<S> {
     pub fn new(source: S) -> Self
         ensures { λ r. ⌜ framing (S·Source .meaning) r ≡ unframed (S·Source .meaning source .coming) (S·Source .meaning source .ending) ⌝ }
     {
-        let place = Place::Size { line: 0, digits: 0, value: 0 };
-        Chunked { source, taken: 0, next: Step::Goes(place) }
+        let place = Place::Size {
+            line: 0,
+            digits: 0,
+            value: 0,
+        };
+        Chunked {
+            source,
+            taken: 0,
+            next: Step::Goes(place),
+        }
     }
 
     /// Hands the source below back. Once a pull has told the end, it stands where the framing left it: after a clean end, just
@@ -42,7 +54,11 @@ impl<S: Source> Chunked<S> {
     pub fn into_source(self) -> S
         ensures { λ r. ⌜ (atEnd self ≡ true → S·Source .meaning r .coming ≡ framing (S·Source .meaning) self .left) ⌝ }
     {
-        let Chunked { source, taken: _, next: _ } = self;
+        let Chunked {
+            source,
+            taken: _,
+            next: _,
+        } = self;
         source
     }
 
@@ -77,7 +93,9 @@ impl<S: Source> Chunked<S> {
         loop {
             match self.next {
                 Step::Ends(end) => return Err(end),
-                Step::Goes(Place::Data { left }) if left > 0 && self.taken < LIMIT => return Ok(left),
+                Step::Goes(Place::Data { left }) if left > 0 && self.taken < LIMIT => return Ok(
+                    left,
+                ),
                 Step::Goes(place) => self.advance(place),
             }
         }
@@ -98,7 +116,9 @@ impl<S: Source> Chunked<S> {
         let room = most.min(buffer.len());
         match self.source.pull(&mut buffer[0..room]) {
             Pulled::Gave(n) => {
-                self.next = Step::Goes(Place::Data { left: left - n as u32 });
+                self.next = Step::Goes(Place::Data {
+                    left: left - n as u32,
+                });
                 self.taken += n as u32;
                 Pulled::Gave(n)
             }

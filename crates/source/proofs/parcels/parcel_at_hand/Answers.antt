@@ -17,7 +17,8 @@ returns-then-n-gt0 c =
     let z : c .args .left ≡ 0 = omega arith in
     record {
       some = search needs;
-      same = λ s e. ap (λ (l : List ℕ). cut (getD ns i 0 ∷ l) s) (take-rest ns (i + 1)) ∙ ap (λ (l : List ℕ). cut l s) (sym (drop-more ns i 0 lt)) ∙ c .loop-i .inv s ∙ sym (cut-none (c .args .left) ns s z) }
+      same = λ s e. ap (λ (l : List ℕ). cut (getD ns i 0 ∷ l) s) (take-rest ns (i + 1)) ∙ ap (λ (l : List ℕ). cut l s) (sym (drop-more ns i 0 lt)) ∙ c .loop-i .inv s ∙ sym (cut-none (c .args .left) ns s z);
+    }
 
 pub loop-i-again : need.loop-i-again
 loop-i-again c = λ s. cut-pass (c .args .lengths .now) (c .loop-i .i) s (omega arith) (omega arith) ∙ c .loop-i .inv s
@@ -28,4 +29,5 @@ returns c =
     let z : c .args .left ≡ 0 = omega arith in
     record {
       some = c .pre;
-      same = λ s e. cut-all (c .args .all) s e ∙ ap (λ (l : List ℕ). cut l s) (sym (drop-all (c .loop-i .i) ns (omega arith))) ∙ c .loop-i .inv s ∙ sym (cut-none (c .args .left) ns s z) }
+      same = λ s e. cut-all (c .args .all) s e ∙ ap (λ (l : List ℕ). cut l s) (sym (drop-all (c .loop-i .i) ns (omega arith))) ∙ c .loop-i .inv s ∙ sym (cut-none (c .args .left) ns s z);
+    }

@@ -27,8 +27,9 @@ loop-room-again g c =
     let k = c .min-room .result - 0 in
     let m = g .S·Source .meaning (c .loop-room .source) in
     let m′ = g .S·Source .meaning (c .pull .last .self) in
-    let buffer = c .loop-room .buffer in
-    (took m m′ (g .K·Sink .meaning (c .loop-room .sink)) (g .K·Sink .meaning (c .take .last .self)) _ k (c .in-Gave .n) buffer (c .pull .last .buffer)
-        (given m (take k buffer) (c .in-Gave .n) m′ (c .pull .last .buffer) (c .in-Gave .ensures tt)) (omega (arith, c .space .ensures)) (omega arith) (c .take .ensures)
-        ∙ c .loop-room .inv .0,
-        search needs)
+    let buffer = c .loop-room .buffer in (
+      took m m′ (g .K·Sink .meaning (c .loop-room .sink)) (g .K·Sink .meaning (c .take .last .self)) _ k (c .in-Gave .n) buffer (c .pull .last .buffer)
+          (given m (take k buffer) (c .in-Gave .n) m′ (c .pull .last .buffer) (c .in-Gave .ensures tt)) (omega (arith, c .space .ensures)) (omega arith) (c .take .ensures)
+          ∙ c .loop-room .inv .0,
+      search needs,
+    )

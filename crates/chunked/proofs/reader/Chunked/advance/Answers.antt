@@ -12,7 +12,8 @@ returns-then-self-ge-LIMIT g c =
     let m = g .S·Source .meaning (s .source) in
     record {
       same = ap (λ e. stops e (s .taken) (m .coming)) (c .overrun .ensures) ∙ over-same (s .next) (c .args .place) (s .taken) m (c .pre .here) (c .if-self-ge-LIMIT .taken);
-      nearer = pending-some (s .next) (c .args .place) (m .coming) (c .pre .here) }
+      nearer = pending-some (s .next) (c .args .place) (m .coming) (c .pre .here);
+    }
 
 pub returns-in-Gave : need.returns-in-Gave
 returns-in-Gave g c =
@@ -22,7 +23,8 @@ returns-in-Gave g c =
     let f = first-byte m (c .in-Gave .field-0) m′ (c .pull .last .buffer) (given m (0 ∷ []) (c .in-Gave .field-0) m′ (c .pull .last .buffer) (c .in-Gave .ensures tt)) in
     record {
       same = byte-same (s .next) (c .step-at-self .result) (c .args .place) (s .taken) _ m m′ (c .pre .here) (omega arith) (c .pre .overhead (omega arith)) f (c .step-at-self .ensures);
-      nearer = byte-nearer (s .next) (c .step-at-self .result) (c .args .place) _ m m′ (c .pre .here) f }
+      nearer = byte-nearer (s .next) (c .step-at-self .result) (c .args .place) _ m m′ (c .pre .here) f;
+    }
 
 pub returns-in-Ended : need.returns-in-Ended
 returns-in-Ended g c =
@@ -32,4 +34,5 @@ returns-in-Ended g c =
     let t = told m (0 ∷ []) (c .in-Ended .end) m′ (c .pull .last .buffer) (c .in-Ended .ensures tt) in
     record {
       same = early-same (s .next) (c .args .place) (s .taken) m m′ (c .in-Ended .end) (c .early .result) (c .pre .here) (omega arith) (t .none) (t .is) (t .after) (c .early .ensures);
-      nearer = pending-some (s .next) (c .args .place) (m .coming) (c .pre .here) }
+      nearer = pending-some (s .next) (c .args .place) (m .coming) (c .pre .here);
+    }

@@ -32,11 +32,12 @@ returns-in-Gave g c =
     let filled = front-filled k n (take n (m .coming)) buffer (c .pull .last .buffer) (p .fits) (p .filled) in
     record {
       pulls =
-        gives _ buffer n _ _ (c .pre .room)
-        (gives-front (framing (g .S·Source .meaning) s) f′ (take n (m .coming)) n buffer _ same (length-take-le n (m .coming) (p .comes)) (omega arith) some filled);
+          gives _ buffer n _ _ (c .pre .room)
+          (gives-front (framing (g .S·Source .meaning) s) f′ (take n (m .coming)) n buffer _ same (length-take-le n (m .coming) (p .comes)) (omega arith) some filled);
       taken = sym (ap (λ x. x .taken) same);
       left = sym (ap (λ x. x .left) same);
-      tells = refl }
+      tells = refl;
+    }
 
 tells-some : (e : End) → true ≡ not (eqb (ended e .0) 0)
 tells-some Clean = refl
@@ -53,8 +54,9 @@ returns-in-Ended g c =
     let same = early-same (s .next) (Data (c .args .left)) (s .taken) m m′ (c .in-Ended .end) (c .early-end .result) (c .pre .here) (c .pre .more) (t .none) (t .is) (t .after) (c .early-end .ensures) in
     record {
       pulls =
-        tells _ buffer (c .early-end .result) _ _
-        (tells-end (framing (g .S·Source .meaning) s) _ (c .early-end .result) (s .taken) (m′ .coming) buffer _ (sym same) same (c .pre .room) (front-kept k buffer (c .pull .last .buffer) (t .kept)));
+          tells _ buffer (c .early-end .result) _ _
+          (tells-end (framing (g .S·Source .meaning) s) _ (c .early-end .result) (s .taken) (m′ .coming) buffer _ (sym same) same (c .pre .room) (front-kept k buffer (c .pull .last .buffer) (t .kept)));
       taken = ap (λ x. x .taken) same;
       left = ap (λ x. x .left) same;
-      tells = tells-some (c .early-end .result) }
+      tells = tells-some (c .early-end .result);
+    }

@@ -10,4 +10,5 @@ returns c =
     record {
       meaning = refl;
       parcels = cut-zero (c .args .lengths .now) (c .args .bytes .now);
-      whole = joined-cut (0 ∷ c .args .lengths .now) (c .args .bytes .now) }
+      whole = joined-cut (0 ∷ c .args .lengths .now) (c .args .bytes .now);
+    }

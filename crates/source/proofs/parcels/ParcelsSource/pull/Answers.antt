@@ -16,7 +16,8 @@ returns-then-is-empty-2 c =
     let room : 0 < length (c .args .buffer .now) = search needs in
     record {
       pulls = search needs;
-      keeps = cut-end (s .left ∷ s .lengths .now) (s .rest .now) (length (c .args .buffer .now)) none room }
+      keeps = cut-end (s .left ∷ s .lengths .now) (s .rest .now) (length (c .args .buffer .now)) none room;
+    }
 
 pub returns : need.returns
 returns c =
@@ -28,6 +29,7 @@ returns c =
     record {
       pulls = search needs;
       keeps =
-        ap (λ (l : List ℕ). (gave n, cut ((t .0 - n) ∷ t .1 .now) l)) (c .give-self .ensures .rest)
-        ∙ cut-portion (t .0) n (t .1 .now) (s .rest .now) (length (c .args .buffer .now)) (c .parcel-at-hand-left .ensures .some) room some (omega arith)
-        ∙ ap (portion (length (c .args .buffer .now))) (c .parcel-at-hand-left .ensures .same (s .rest .now) refl) }
+          ap (λ (l : List ℕ). (gave n, cut ((t .0 - n) ∷ t .1 .now) l)) (c .give-self .ensures .rest)
+          ∙ cut-portion (t .0) n (t .1 .now) (s .rest .now) (length (c .args .buffer .now)) (c .parcel-at-hand-left .ensures .some) room some (omega arith)
+          ∙ ap (portion (length (c .args .buffer .now))) (c .parcel-at-hand-left .ensures .same (s .rest .now) refl);
+    }
