@@ -1,4 +1,4 @@
--- Laws of the framing from an offset on: one byte more, a run of data, and the ends.
+-- What a reader's steps leave of the framing: one byte more, a run of data, and the ends.
 use mathlib.Core.Path.{_≡_, refl, sym, ap, subst, _∙_}
 use mathlib.Core.Bool.{Bool, true, false}
 use mathlib.Core.List.{List, [], _∷_, _++_, append-assoc}
@@ -17,20 +17,10 @@ use Rattle.chunked.specs.declared.places.Place.the-variants.{Data}
 use Rattle.chunked.specs.declared.places.Step.{Step}
 use Rattle.chunked.specs.declared.places.Step.the-variants.{Goes, Ends}
 use Rattle.chunked.specs.Framing.{Framed, framed, step, stops, giving, delivers, isData, early, overrun, limit}
+use Rattle.chunked.proofs.Automaton.{prepend, framed-goes, framed-over, framed-none}
 use Rattle.chunked.specs.Reading.{framingFrom, pendingBy, unframes}
 
--- no more bytes may be taken
-pub framed-over : (p : Place) (at : ℕ) (s : Bytes) (e : End) → limit ≤ at → framed p at s e ≡ stops overrun at s
-unfolding framed
-framed-over p at [] e h = let t = le-ltb at limit h in rw (t, framed)
-framed-over p at (b ∷ s) e h = let t = le-ltb at limit h in rw (t, framed)
-
--- below has ended
-pub framed-none : (p : Place) (at : ℕ) (e : End) → at < limit → framed p at [] e ≡ stops (early at e) at []
-unfolding framed
-framed-none p at e h = let t = lt-ltb at limit h in rw (t, framed)
-
-pub delivers-none : (p : Place) (b : ℕ) (f : Framed) → isData p ≡ false → delivers p b f ≡ f
+delivers-none : (p : Place) (b : ℕ) (f : Framed) → isData p ≡ false → delivers p b f ≡ f
 delivers-none p b f d = rw (d, delivers)
 
 goes-on : (p : Place) (at b : ℕ) (s : Bytes) (e : End) → isData p ≡ false → (x : Step)
@@ -42,15 +32,6 @@ goes-on p at b s e d (Ends y) = refl
 pub framed-step : (p : Place) (at b : ℕ) (s : Bytes) (e : End) → at < limit → isData p ≡ false → framed p at (b ∷ s) e ≡ framingFrom (step p at b) (at + 1) (means s e)
 unfolding framed
 framed-step p at b s e h d = let t = lt-ltb at limit h in rw (t, framed) (goes-on p at b s e d (step p at b))
-
--- one byte of data
-framed-data : (left at b : ℕ) (s : Bytes) (e : End) → at < limit → framed (Data (suc left)) at (b ∷ s) e ≡ giving b (framed (Data left) (at + 1) s e)
-unfolding framed
-framed-data left at b s e h = let t = lt-ltb at limit h in rw (t, framed)
-
--- bytes before those to come
-abbrev pub prepend : Bytes → Framed → Framed
-prepend d f = record { bytes = d ++ f .bytes; ending = f .ending; taken = f .taken; left = f .left }
 
 -- a run of data
 pub framed-run : (n left at : ℕ) (s : Bytes) (e : End) → n ≤ left → n ≤ length s → at + n ≤ limit
@@ -65,7 +46,7 @@ framed-run (suc n) (suc left) at (x ∷ s) e a b c =
     let l : suc left - suc n ≡ left - n = omega arith in
     let z : at + suc n ≡ at + 1 + n = omega arith in
     let h = framed-run n left (at + 1) s e (omega arith) (omega arith) (omega arith) in
-    let o = framed-data left at x s e (omega arith) in
+    let o = framed-goes (Data (suc left)) (Data left) at x s e (omega arith) refl in
     cc
 
 -- The steps of a reader, by what comes next, the bytes taken so far and what the source below means.

@@ -12,7 +12,7 @@ use Rattle.source.proofs.Pulling.{given, told, gives, tells, front-filled, fron
 use Rattle.chunked.specs.declared.places.Place.the-variants.{Data}
 use Rattle.chunked.specs.Framing.{Framed, framed}
 use Rattle.chunked.specs.Reading.{framing}
-use Rattle.chunked.proofs.Advances.{prepend, run-same, gives-front, early-same, tells-end}
+use Rattle.chunked.proofs.Advances.{run-same, gives-front, early-same, tells-end}
 use Rattle.chunked.proofs.reader.Chunked.deliver.Needs as need
 
 pub returns-in-Gave : need.returns-in-Gave

@@ -1,0 +1,16 @@
+//! The worked examples, proved of the definitions, and tests by tables.
+ghost use Rattle.cases.specs.Examples.{Worked-examples};
+
+mod cut;
+#[cfg(test)]
+mod framing;
+
+pub use cut::Cut;
+pub use cut::CutSource;
+
+/// The worked examples hold of the definitions.
+pub fn worked_examples() -> u8
+    ensures { λ _. ⌜ Worked-examples ⌝ }
+{
+    0
+}
