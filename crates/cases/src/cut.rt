@@ -18,7 +18,10 @@ impl<'a> Cut<'a> {
     pub fn new(bytes: &'a [u8], end: End) -> Self
         ensures { λ r. ⌜ cutMeaning r ≡ means (now (bytes .entry)) end ⌝ }
     {
-        Cut { block: Block::new(bytes), end }
+        Cut {
+            block: Block::new(bytes),
+            end,
+        }
     }
 }
 

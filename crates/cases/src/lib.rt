@@ -4,6 +4,10 @@ ghost use Rattle.cases.specs.Examples.{Worked-examples};
 mod cut;
 #[cfg(test)]
 mod framing;
+#[cfg(test)]
+mod sinks;
+#[cfg(test)]
+mod sources;
 
 pub use cut::Cut;
 pub use cut::CutSource;

@@ -30,6 +30,10 @@ ends (Ends e) = true
 abbrev pub atEnd : {S : Type 0} → Chunked S → Bool
 atEnd c = ends (c .next)
 
+-- what the source below means
+abbrev pub belowMeaning : {S : Type 0} → (S → Meaning) → Chunked S → Meaning
+belowMeaning below c = below (c .source)
+
 -- at most so many bytes and ends are still to be met
 abbrev pub pendingBy : Step → Bytes → ℕ
 pendingBy (Goes p) s = length s + 1

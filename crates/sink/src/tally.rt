@@ -1,8 +1,10 @@
 ghost use mathlib.Core.Path.{_≡_};
 ghost use mathlib.Core.List.{[]};
 ghost use Rattle.sink.specs.Values.{Count, counted, none, tallyMeaning};
-use crate::sinks::Refusal;
-use crate::sinks::Sink;
+
+mod takes;
+
+pub use takes::TallySink;
 
 /// Counts the bytes, and sums them up by FNV-1a in 32 bits.
 #[derive(Clone, Copy)]
@@ -33,26 +35,5 @@ impl Tally {
         ensures { λ r. ⌜ r ≡ tallyMeaning (now (self .entry)) .value .sum ⌝ }
     {
         self.sum
-    }
-}
-
-pub impl Sink for Tally as TallySink {
-    ghost Kind = { Count };
-
-    ghost meaning = { tallyMeaning };
-
-    fn space(&self) -> u32 {
-        u32::MAX - self.count
-    }
-
-    fn take(&mut self, bytes: &[u8]) -> Result<(), Refusal> {
-        if bytes.len() > self.space() as usize {
-            return Err(Refusal::Full);
-        }
-        for b in bytes {
-            self.sum = (self.sum ^ u32::from(*b)).wrapping_mul(16_777_619);
-            self.count += 1;
-        }
-        Ok(())
     }
 }

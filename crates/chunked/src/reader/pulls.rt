@@ -8,7 +8,7 @@ ghost use Rattle.source.specs.Meanings.{Pulls, answer};
 ghost use Rattle.chunked.specs.declared.places.Place.the-variants.{Data};
 ghost use Rattle.chunked.specs.declared.places.Step.the-variants.{Goes, Ends};
 ghost use Rattle.chunked.specs.Framing.{unframed, isData, overrun as overrunEnd};
-ghost use Rattle.chunked.specs.Reading.{framing, unframes, atEnd, pending};
+ghost use Rattle.chunked.specs.Reading.{framing, unframes, atEnd, belowMeaning, pending};
 use crate::places::Place;
 use crate::places::Step;
 use crate::places::early;
@@ -52,7 +52,8 @@ impl<S: Source> Chunked<S> {
     /// Hands the source below back. Once a pull has told the end, it stands where the framing left it: after a clean end, just
     /// past the empty line.
     pub fn into_source(self) -> S
-        ensures { λ r. ⌜ (atEnd self ≡ true → S·Source .meaning r .coming ≡ framing (S·Source .meaning) self .left) ⌝ }
+        ensures below { λ r. ⌜ S·Source .meaning r ≡ belowMeaning (S·Source .meaning) self ⌝ }
+        ensures past { λ r. ⌜ (atEnd self ≡ true → S·Source .meaning r .coming ≡ framing (S·Source .meaning) self .left) ⌝ }
     {
         let Chunked {
             source,

@@ -3,7 +3,7 @@ use Prim.Native.Nat.{ℕ, _+_}
 use lib.ListN.{take}
 use Rattle.std.specs.Iters.{folded}
 use Rattle.sink.specs.Values.{Count, counted}
-use Rattle.sink.proofs.tally.TallySink.take.Given as given
+use Rattle.sink.proofs.tally.takes.TallySink.take.Given as given
 
 abbrev pub Inv-loop-b : given.InvT-loop-b
 Inv-loop-b l =

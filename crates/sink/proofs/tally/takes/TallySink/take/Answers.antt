@@ -2,7 +2,7 @@ use borrow.Author.Needs.{needs}
 use Rattle.std.proofs.shelf.Lists.{take-all}
 use Rattle.std.proofs.shelf.Sums.{folded-more}
 use Rattle.sink.proofs.Folds.{drop-none}
-use Rattle.sink.proofs.tally.TallySink.take.Needs as need
+use Rattle.sink.proofs.tally.takes.TallySink.take.Needs as need
 
 pub loop-b-again : need.loop-b-again
 loop-b-again c = search (needs, folded-more)
