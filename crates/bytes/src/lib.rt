@@ -1,6 +1,11 @@
-//! Classes of bytes that several grammars share.
+//! Bytes and lines, as several grammars share them.
 ghost use mathlib.Core.Path.{_≡_};
 ghost use Rattle.bytes.specs.Classes.{hex};
+
+mod lines;
+
+pub use lines::LineSpan;
+pub use lines::first_line;
 
 /// The value of a hexadecimal digit of either case.
 pub fn hex_value(b: u8) -> Option<u8>

@@ -1,6 +1,8 @@
 //! The worked examples, proved of the definitions, and tests by tables.
 ghost use Rattle.cases.specs.Examples.{Worked-examples};
 
+#[cfg(test)]
+mod codings;
 mod cut;
 #[cfg(test)]
 mod framing;

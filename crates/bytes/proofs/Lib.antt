@@ -1,0 +1,2 @@
+pub mod FirstLines
+pub mod LineLaws

@@ -1,0 +1,16 @@
+pub mod Windows
+pub mod Base64Steps
+pub mod Base64Runs
+pub mod Base64Laws
+pub mod QuotedPieces
+pub mod QuotedShapes
+pub mod QuotedBytes
+pub mod QuotedHeld
+pub mod QuotedBreaks
+pub mod QuotedSteps
+pub mod QuotedRuns
+pub mod QuotedLonger
+pub mod QuotedBack
+pub mod QuotedPlain
+pub mod Feeding
+pub mod Endings

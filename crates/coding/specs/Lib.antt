@@ -1,0 +1,13 @@
+pub mod Decoding
+pub mod Base64
+pub mod Base64Laws
+pub mod Quoted
+pub mod QuotedLaws
+pub mod Waiting
+pub mod Flowing
+pub mod Sextets
+pub mod QuotedShapes
+pub mod QuotedHeld
+pub mod Codings
+pub mod Modes
+pub mod Decoders
