@@ -1,7 +1,7 @@
 -- Base64 by whole groups, from slice to slice.
 use mathlib.Core.Path.{_≡_, sym, ap, _∙_}
 use mathlib.Core.List.{[], _∷_, _++_}
-use Prim.Native.Nat.{ℕ, _+_, _≤_}
+use Prim.Native.Nat.{ℕ, _+_, _≤_, _<_}
 use native.Mathlib.Omega.{arith}
 use lib.ListN.{length, take, drop, set, getD}
 use Rattle.std.proofs.shelf.Lists.{append-assoc, length-set, take-more-set, drop-set-lt, drop-more, drop-drop}
@@ -68,4 +68,20 @@ ran-more {raw} {before} {after} {taken} {given} x y z r same h k group =
           ∙ ap (λ (n : ℕ). prefixed (take given after) (prefixed three (base64From [] n rest e))) place
           ∙ ap (λ (s : Bytes). record { bytes = s; ending = base64From [] (at + (taken + 4)) rest e .ending }) (sym (append-assoc (take given after) three (base64From [] (at + (taken + 4)) rest e .bytes)))
           ∙ ap (λ (t : Bytes). prefixed t (base64From [] (at + (taken + 4)) rest e)) (sym (take-put3 after given x y z k));
+    }
+
+-- one ignored byte more
+pub ran-past : {raw before after : Bytes} {taken given : ℕ} → Ran raw before after taken given → taken < length raw
+    → ((at : ℕ) (q : Bytes) (e : End) → base64From [] at (getD raw taken 0 ∷ q) e ≡ base64From [] (at + 1) q e) → Ran raw before after (taken + 1) given
+ran-past {raw} {before} {after} {taken} {given} r h past =
+    record {
+      took = omega arith;
+      gave = r .gave;
+      kept = r .kept;
+      whole = λ at q e.
+          let place : at + taken + 1 ≡ at + (taken + 1) = omega arith in
+          r .whole at q e
+          ∙ ap (λ (s : Bytes). prefixed (take given after) (base64From [] (at + taken) (s ++ q) e)) (drop-more raw taken 0 h)
+          ∙ ap (prefixed (take given after)) (past (at + taken) (drop (taken + 1) raw ++ q) e)
+          ∙ ap (λ (n : ℕ). prefixed (take given after) (base64From [] n (drop (taken + 1) raw ++ q) e)) place;
     }

@@ -1,9 +1,9 @@
 -- Base64 by one raw byte at a time, and by groups of four characters.
-use mathlib.Core.Path.{_≡_, sym, ap, _∙_}
+use mathlib.Core.Path.{_≡_, refl, sym, ap, _∙_}
 use mathlib.Core.Bool.{Bool, true, false}
 use mathlib.Core.Logic.{inl, inr}
 use mathlib.Core.List.{List, [], _∷_, _++_}
-use Prim.Native.Nat.{ℕ, suc, _+_, _*_, _/_, _%_, _<_}
+use Prim.Native.Nat.{ℕ, suc, _+_, _*_, _/_, _%_, _<_, _≤_}
 use native.Mathlib.Omega.{arith}
 use native.Mathlib.Nat.{add-zero}
 use borrow.Author.Needs.{needs}
@@ -19,6 +19,7 @@ use Rattle.source.specs.declared.ends.End.{End}
 use Rattle.source.specs.Meanings.{fault}
 use Rattle.coding.specs.Decoding.{gives, prefixed}
 use Rattle.coding.specs.Base64.{sextet, sextets, bits, octets, dataPart, hasEquals, base64End, base64From}
+use Rattle.coding.specs.Sextets.{sextetOr}
 
 -- the three bytes of four characters
 abbrev pub byte1 : (a b : ℕ) → ℕ
@@ -139,3 +140,19 @@ group-is a b c d x y z v ha hb hc hd at q e =
     ∙ from-character (x ∷ (y ∷ (z ∷ []))) (at + 1 + 1 + 1) d v q e hd
     ∙ from-group x y z v (at + 1 + 1 + 1 + 1) q e
     ∙ ap (λ (n : ℕ). prefixed (byte1 x y ∷ (byte2 y z ∷ (byte3 z v ∷ []))) (base64From [] n q e)) place
+
+-- an entry below 64 is what the byte stands for
+entry-some : (o : Option ℕ) (v : ℕ) → v ≡ sextetOr o → v < 64 → o ≡ Some v
+entry-some (Some x) v e h = ap Some (sym e)
+entry-some None v e h = absurd (omega arith)
+
+pub some-sextet : (b v : ℕ) → v ≡ sextetOr (sextet b) → v < 64 → sextet b ≡ Some v
+some-sextet b v e h = entry-some (sextet b) v e h
+
+-- and one that is 64 is of a byte that stands for nothing
+entry-none : (o : Option ℕ) (v : ℕ) → ((x : ℕ) → o ≡ Some x → x < 64) → v ≡ sextetOr o → 64 ≤ v → o ≡ None
+entry-none (Some x) v small e h = let lt = small x refl in absurd (omega arith)
+entry-none None v small e h = refl
+
+pub none-sextet : (b v : ℕ) → v ≡ sextetOr (sextet b) → 64 ≤ v → sextet b ≡ None
+none-sextet b v e h = entry-none (sextet b) v (λ x s. sextet-small b x s) e h
