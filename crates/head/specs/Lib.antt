@@ -1,0 +1,15 @@
+pub mod Fields
+pub mod LineFaults
+pub mod Media
+pub mod Entities
+pub mod Packing
+pub mod Judging
+pub mod Lookup
+pub mod BoundaryBytes
+pub mod MediaReads
+pub mod Summaries
+pub mod Openings
+pub mod Packs
+pub mod PackingLaw
+pub mod Heads
+pub mod MediaLaw
