@@ -7,6 +7,8 @@ mod cut;
 #[cfg(test)]
 mod framing;
 #[cfg(test)]
+mod heads;
+#[cfg(test)]
 mod sinks;
 #[cfg(test)]
 mod sources;
