@@ -142,10 +142,5 @@ quoted-none h at s e none =
     let z : at - 0 ≡ at = omega arith in
     ap (λ (k : Bytes). quotedFrom k at s e) none ∙ ap (λ (n : ℕ). quoted n s e) z
 
-pub quoted-ran : (h : Bytes) (n at : ℕ) (raw out out′ q : Bytes) (e : End) → h ≡ [] → n ≤ length raw → out′ ≡ take n raw ++ drop n out
-    → quoted at (raw ++ q) e ≡ prefixed (take n raw) (quoted (at + n) (drop n raw ++ q) e)
-    → quotedFrom h at (raw ++ q) e ≡ prefixed (take n out′) (quotedFrom h (at + n) (drop n raw ++ q) e)
-quoted-ran h n at raw out out′ q e none le filled whole =
-    let l = length-take-le n raw le in
-    quoted-none h at (raw ++ q) e none ∙ whole ∙ ap (λ (t : Bytes). prefixed t (quoted (at + n) (drop n raw ++ q) e)) (sym (front n (take n raw) out out′ l filled))
-    ∙ ap (prefixed (take n out′)) (sym (quoted-none h (at + n) (drop n raw ++ q) e none))
+pub quoted-ran : (h : Bytes) (at n : ℕ) (s s′ t : Bytes) (e : End) → h ≡ [] → quoted at s e ≡ prefixed t (quoted (at + n) s′ e) → quotedFrom h at s e ≡ prefixed t (quotedFrom h (at + n) s′ e)
+quoted-ran h at n s s′ t e none whole = quoted-none h at s e none ∙ whole ∙ ap (prefixed t) (sym (quoted-none h (at + n) s′ e none))

@@ -8,6 +8,8 @@ pub mod QuotedBytes
 pub mod QuotedHeld
 pub mod QuotedBreaks
 pub mod QuotedSteps
+pub mod Tables
+pub mod QuotedTokens
 pub mod QuotedRuns
 pub mod QuotedLonger
 pub mod QuotedBack

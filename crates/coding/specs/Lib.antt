@@ -8,6 +8,7 @@ pub mod Flowing
 pub mod Sextets
 pub mod QuotedShapes
 pub mod QuotedHeld
+pub mod QuotedTokens
 pub mod Codings
 pub mod Modes
 pub mod Decoders

@@ -24,6 +24,18 @@ pub(crate) enum Kind {
     Cr { soft: bool },
 }
 
+/// What stands first in raw bytes behind which nothing is held back.
+#[derive(Clone, Copy)]
+pub(crate) enum Token {
+    /// An `=` and two hexadecimal digits: this byte.
+    Byte(u8),
+    /// An `=` and a CRLF.
+    Soft,
+    /// A CRLF.
+    Hard,
+    Other,
+}
+
 /// A quoted-printable decoder: the raw bytes of a line that are not decided yet.
 #[derive(Clone, Copy)]
 pub(crate) struct Quoted {

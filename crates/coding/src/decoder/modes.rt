@@ -53,10 +53,7 @@ pub(crate) fn run(mode: &Mode, raw: &[u8], out: &mut [u8]) -> Fed
     match mode {
         Mode::Plain => copy(raw, out),
         Mode::Base64(decoder) if decoder.is_between() => base64::run(raw, out),
-        Mode::Quoted(decoder) if decoder.is_between() => {
-            let n = Quoted::run(raw, out);
-            Fed { taken: n, given: n }
-        }
+        Mode::Quoted(decoder) if decoder.is_between() => Quoted::run(raw, out),
         Mode::Spent | Mode::Ended(_) => Fed {
             taken: raw.len(),
             given: 0,

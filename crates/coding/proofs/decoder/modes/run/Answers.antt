@@ -1,11 +1,9 @@
 use mathlib.Core.Path.{_≡_, refl, sym, ap, _∙_}
 use mathlib.Core.Bool.{true}
-use borrow.Author.Needs.{needs}
 use mathlib.Core.List.{[], _++_}
-use Prim.Native.Nat.{ℕ, _+_, _≤_}
-use lib.ListN.{length, take, drop}
+use Prim.Native.Nat.{ℕ, _+_}
+use lib.ListN.{take, drop}
 use Rattle.std.proofs.shelf.Lists.{length-take-le}
-use Rattle.bytes.specs.Bytes.{Bytes}
 use Rattle.coding.specs.declared.decoder.Mode.{Mode}
 use Rattle.coding.specs.Decoding.{gives, prefixed}
 use Rattle.coding.specs.Modes.{laterBy}
@@ -37,18 +35,18 @@ returns-in-Plain c =
 pub returns-in-Quoted : need.returns-in-Quoted
 returns-in-Quoted c =
     let raw = c .args .raw .now in
-    let out = c .args .out .now in
-    let out′ = c .run-n .last .out in
-    let n = c .run-n .result in
-    let e = c .run-n .ensures in
-    let took : n ≤ length raw = search needs in
-    let none : heldBytes (c .in-Quoted .decoder) ≡ [] = none-waits true (heldBytes (c .in-Quoted .decoder)) (c .if-is-between-2 .ensures tt) refl in
+    let r = c .run-in-Quoted .result in
+    let e = c .run-in-Quoted .ensures in
+    let given = take (r .given) (c .run-in-Quoted .last .out) in
+    let held = heldBytes (c .in-Quoted .decoder) in
+    let none : held ≡ [] = none-waits true held (c .if-is-between-2 .ensures tt) refl in
     record {
-      took = took;
-      gave = search needs;
-      kept = behind n (take n raw) out out′ (length-take-le n raw took) (e .filled);
+      took = e .took;
+      gave = e .gave;
+      kept = e .kept;
       whole = λ at q x.
+          let rest = drop (r .taken) raw ++ q in
           ap (λ (m : Mode). laterBy m at (raw ++ q) x) (c .in-Quoted .is)
-          ∙ quoted-ran (heldBytes (c .in-Quoted .decoder)) n at raw out out′ q x none took (e .filled) (e .whole at q x)
-          ∙ ap (λ (m : Mode). prefixed (take n out′) (laterBy m (at + n) (drop n raw ++ q) x)) (sym (c .in-Quoted .is));
+          ∙ quoted-ran held at (r .taken) (raw ++ q) rest given x none (e .whole at q x)
+          ∙ ap (λ (m : Mode). prefixed given (laterBy m (at + r .taken) rest x)) (sym (c .in-Quoted .is));
     }
