@@ -29,7 +29,9 @@ fn run(rt: &LibcRuntime) -> Result<(), AnyError> {
     if options.time {
         return time(rt, &options, raw.as_slice(), out.as_mut_slice());
     }
-    let (len, end) = decode_whole(options.coding, raw.as_slice(), out.as_mut_slice());
+    let Some((len, end)) = decode_whole(options.coding, raw.as_slice(), out.as_mut_slice()) else {
+        return Err("a body of more than 16777216 bytes".into());
+    };
     let decoded = out.as_slice();
     rt.stdout().write_all(&decoded[0..len.min(decoded.len())])?;
     match end {
@@ -62,9 +64,10 @@ fn time(rt: &LibcRuntime, options: &Options, raw: &[u8], out: &mut [u8]) -> Resu
     let mut given = 0;
     for _ in 0..8 {
         let start = Instant::now(rt)?;
-        let (len, _end) = decode_whole(options.coding, raw, out);
+        if let Some((len, _end)) = decode_whole(options.coding, raw, out) {
+            given = len;
+        }
         best = best.min(start.elapsed(rt)?.as_nanos());
-        given = len;
     }
     let rate = (raw.len() as u128).saturating_mul(1000) / best.max(1);
     println!(rt, "raw {} decoded {given} MB/s {rate}", raw.len())?;
