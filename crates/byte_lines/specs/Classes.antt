@@ -1,5 +1,5 @@
 -- Classes of bytes. Assumes nothing.
-use Rattle.std.specs.Prelude.{ℕ, ◌+◌, ◌-◌, Bool, true, false, ◌&&◌, ◌||◌, Some, None, Option, ◌==◌, nat_le}
+use Rattle.std.specs.Prelude.{ℕ, ◌-◌, Bool, true, false, ◌&&◌, ◌||◌, Some, None, Option, ◌==◌, nat_le}
 
 abbrev pub within : (low high : ℕ) → ℕ → Bool
 within low high b = nat_le low b && nat_le b high

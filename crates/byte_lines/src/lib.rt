@@ -1,4 +1,6 @@
 //! Bytes and lines, as several grammars share them.
+#![tactic(auto)]
+
 ghost use Rattle.std.specs.Prelude.{◌≡◌};
 ghost use Rattle.byte_lines.specs.Classes.{hex};
 

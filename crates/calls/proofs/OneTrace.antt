@@ -40,7 +40,7 @@ module _ {I : Type 0} {V : I → Type 0} where
   lawful-past number row x a l =
       record {
         refusals = l.refusals.1;
-        in_order = l.inOrder.1;
+        in_order = l.in_order.1;
         counted = l.counted.1;
         gave = l.gave.1;
         first = λ p.
@@ -64,7 +64,7 @@ module _ {I : Type 0} {V : I → Type 0} where
   latest : (number : ℕ) (row : List Entry) (x : Item (AnySink I V)) (a : List (Item (AnySink I V))) → Lawful number row (x ∷ a)
       → x.exchange ≡ (outcome (meaning_of number row (plain a)) (handed x.exchange)).exchange
   latest number row x a l =
-      owed number row (plain a) x.exchange x.gave (l.first (part x.exchange)).rest l.refusals.0 l.inOrder.0 l.counted.0
+      owed number row (plain a) x.exchange x.gave (l.first (part x.exchange)).rest l.refusals.0 l.in_order.0 l.counted.0
       l.gave.0 (left-before number row x a l)
 
   same-items : (number : ℕ) (row : List Entry) (a b : List (Item (AnySink I V))) → Lawful number row a → Lawful number row b
@@ -88,7 +88,7 @@ module _ {I : Type 0} {V : I → Type 0} where
       let e : r ≡ plain k.delivery.items = sym k.delivery.same in
       record {
         refusals = subst (λ (u : Trace (AnySink I V)). Refusals number (row_of m) u) e k.refusals;
-        in_order = subst (λ (u : Trace (AnySink I V)). InOrder number (row_of m) u) e k.inOrder;
+        in_order = subst (λ (u : Trace (AnySink I V)). InOrder number (row_of m) u) e k.in_order;
         counted = subst (λ (u : Trace (AnySink I V)). Every (Counted (row_of m)) u) e k.counted;
         gave = k.delivery.gave;
         first = k.delivery.first;

@@ -11,7 +11,7 @@ use Rattle.calls.specs.ReaderMeaning.{Part, Meaning, made, fitting, Reply, next_
 use Rattle.calls.specs.Traces.{entry, part_body, up_to, verdict, count, part, tellings, given_from, total, due}
 use Rattle.calls.specs.RunLaw.{Every, Untouched, Tells, InOrder, EndsWhole, Item, joined, Gave, Counted, FirstBytes, Whole, KeepsLaw}
 use Rattle.calls.proofs.Numbering.{Numbered, row_numbered}
-use Rattle.calls.proofs.Words.{up_to_length, take_add}
+use Rattle.calls.proofs.Words.{up_to_length, take-add}
 use Rattle.calls.proofs.Steps.{Reached, bytes_of, Good}
 use Rattle.calls.proofs.ToldLists.{NotEmpty, listed}
 use Rattle.calls.proofs.NextKeeps.{next-good}
@@ -100,7 +100,7 @@ module _ {I : Type 0} {V : I → Type 0} where
           rw y
           (ap (λ (x : Bytes). x ++ bytes_of row r d) ih
           ∙ ap (λ (x : ℕ). take (given_from p r) (part_body row p).bytes ++ take (count d) (drop (given_from x r) (part_body row x).bytes)) e
-          ∙ take_add (given_from p r) (count d) (part_body row p).bytes)
+          ∙ take-add (given_from p r) (count d) (part_body row p).bytes)
       go (inr y) ih = rw (y, add-zero, append-nil) ih
 
   first-bytes : (row : List Entry) (p : ℕ) (r : Trace (AnySink I V)) → FirstBytes row (items_of row r) p
@@ -176,13 +176,13 @@ module _ {I : Type 0} {V : I → Type 0} (number : ℕ) (m : SourceMeaning) wher
   pub run-keeps : (cs : List (Call (AnySink I V))) → KeepsLaw number m (trace cs)
   run-keeps cs =
       let r : Trace (AnySink I V) = trace cs in
-      let ordered : InOrder number (row_of m) r = each (λ past x. Tells number (entry (tellings past) (row_of m)) x) (λ c cs. (good c cs).inOrder) cs in
+      let ordered : InOrder number (row_of m) r = each (λ past x. Tells number (entry (tellings past) (row_of m)) x) (λ c cs. (good c cs).in_order) cs in
       record {
         refusals = each (λ past x. (verdict x ≡ due number (row_of m) past (handed x)) × Untouched x) (λ c cs. (good c cs).refusal) cs;
         tells = listed number (row_of m) (not_empty (row_of m) (row_numbered m)) r ordered;
         in_order = ordered;
         once = (reached cs).1.told ∙ ap up_to (sym (ap length (reached cs).1.told ∙ up_to_length (reached cs).0));
-        ends_whole = each EndsWhole (λ c cs. (good c cs).endsWhole) cs;
+        ends_whole = each EndsWhole (λ c cs. (good c cs).ends_whole) cs;
         counted = each (Counted (row_of m)) (λ c cs. (good c cs).counted) cs;
         delivery = record {
           items = items cs;

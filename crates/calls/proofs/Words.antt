@@ -48,10 +48,10 @@ take-taken zero xs = refl
 take-taken (suc m) [] = refl
 take-taken (suc m) (x ∷ xs) = ap (λ (ys : Bytes). x ∷ ys) (take-taken m xs)
 
-pub take_add : (m n : ℕ) (xs : Bytes) → take m xs ++ take n (drop m xs) ≡ take (m + n) xs
-take_add zero n xs = rw zero-add
-take_add (suc m) n [] = take_all n [] (omega arith) ∙ sym (take_all (suc m + n) [] (omega arith))
-take_add (suc m) n (x ∷ xs) = rw suc-add (ap (λ (ys : Bytes). x ∷ ys) (take_add m n xs))
+pub take-add : (m n : ℕ) (xs : Bytes) → take m xs ++ take n (drop m xs) ≡ take (m + n) xs
+take-add zero n xs = rw zero-add
+take-add (suc m) n [] = take_all n [] (omega arith) ∙ sym (take_all (suc m + n) [] (omega arith))
+take-add (suc m) n (x ∷ xs) = rw suc-add (ap (λ (ys : Bytes). x ∷ ys) (take-add m n xs))
 
 module _ {S : Type 0} where
   -- the bytes given from a part, one exchange on

@@ -1,4 +1,5 @@
 //! What a reader's calls mean, and the law over every run of them.
+#![tactic(auto)]
 
 mod laws;
 

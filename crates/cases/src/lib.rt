@@ -1,4 +1,6 @@
 //! The worked examples, proved of the definitions, and tests by tables.
+#![tactic(auto)]
+
 ghost use Rattle.cases.specs.Examples.{WorkedExamples};
 ghost use Rattle.cases.specs.Messages.{MessageExamples};
 

@@ -1,7 +1,7 @@
 -- What a reader's steps leave of the framing: one byte more, a run of data, and the ends.
-use Rattle.std.proofs.Common.{◌≡◌, ℕ, zero, suc, ◌+◌, ◌-◌, ◌<◌, ◌≤◌, Bool, true, false, ltb, List, [], ◌∷◌, ◌++◌, length, get_or, take, drop, sym, refl, ap, ◌∙◌, subst, append_assoc, arith}
+use Rattle.std.proofs.Common.{◌≡◌, ℕ, zero, suc, ◌+◌, ◌-◌, ◌<◌, ◌≤◌, false, [], ◌∷◌, ◌++◌, length, get_or, take, drop, sym, refl, ap, ◌∙◌, subst, arith}
 use Rattle.std.proofs.lemmas.List.{length-append, take_at, drop_at}
-use Rattle.std.proofs.lemmas.Bool.{lt-ltb, le-ltb}
+use Rattle.std.proofs.lemmas.Bool.{lt-ltb}
 use Rattle.source.specs.declared.ends.End.{End}
 use Rattle.byte_lines.specs.Bytes.{Bytes}
 use Rattle.source.specs.Meanings.{Meaning, means}
@@ -10,7 +10,7 @@ use Rattle.chunked.specs.declared.places.Place.{Place}
 use Rattle.chunked.specs.declared.places.Place.TheVariants.{Data}
 use Rattle.chunked.specs.declared.places.Step.{Step}
 use Rattle.chunked.specs.declared.places.Step.TheVariants.{Goes, Ends}
-use Rattle.chunked.specs.Framing.{Framed, framed, step, stops, giving, delivers, is_data, early, overrun, limit}
+use Rattle.chunked.specs.Framing.{Framed, framed, step, stops, delivers, is_data, early, overrun, limit}
 use Rattle.chunked.proofs.Automaton.{prepend, framed_goes, framed-over, framed-none}
 use Rattle.chunked.specs.Reading.{framing_from, pending_by, unframes}
 

@@ -1,4 +1,5 @@
 //! Chunked framing, as a source over any source.
+#![tactic(auto)]
 
 mod laws;
 mod places;

@@ -1,15 +1,14 @@
 -- A text that needs no coding is itself.
-use Rattle.std.proofs.Common.{◌≡◌, ℕ, ◌+◌, Bool, true, false, cond, ◌||◌, eqb, List, [], ◌∷◌, ◌++◌, Some, None, Option, sym, refl, ap, ◌∙◌}
+use Rattle.std.proofs.Common.{◌≡◌, ℕ, ◌+◌, false, cond, eqb, List, [], ◌∷◌, ◌++◌, None, Option, sym, refl, ap, ◌∙◌}
 use Rattle.std.specs.List.{flat_map, AllByRecursion as All}
-use Rattle.std.proofs.lemmas.List.{append_assoc}
-use Rattle.std.proofs.lemmas.Bool.{or_parts, eqb-true, eqb-false, eq-eqb, ne_eqb}
+use Rattle.std.proofs.lemmas.Bool.{or_parts, eqb-false, ne_eqb}
 use Rattle.byte_lines.specs.Bytes.{Bytes}
 use Rattle.byte_lines.specs.Lines.{Line, line_bytes, width, crlf, lines}
-use Rattle.byte_lines.specs.Strings.{has, trim_end}
+use Rattle.byte_lines.specs.Strings.{has}
 use Rattle.byte_lines.proofs.LineLaws.{joined-lines}
 use Rattle.source.specs.declared.ends.End.{End}
-use Rattle.coding.specs.Decoding.{Decoded, gives, prefixed}
-use Rattle.coding.specs.Quoted.{unescaped, softened, also, text_of, line_text, overlong, quoted_line, quoted_lines, quoted}
+use Rattle.coding.specs.Decoding.{gives, prefixed}
+use Rattle.coding.specs.Quoted.{unescaped, softened, also, text_of, line_text, quoted_line, quoted_lines, quoted}
 use Rattle.coding.specs.QuotedLaws.{PlainLine, PlainIsItself}
 
 -- the test of a byte the other way round

@@ -1,7 +1,7 @@
 -- The bytes of an array from one index up to another.
-use Rattle.std.proofs.Common.{◌≡◌, ℕ, ◌+◌, ◌-◌, ◌<◌, ◌≤◌, List, [], ◌∷◌, ◌++◌, length, take, drop, set, sym, refl, ap, ◌∙◌, arith}
+use Rattle.std.proofs.Common.{◌≡◌, ℕ, ◌+◌, ◌-◌, ◌<◌, ◌≤◌, [], ◌∷◌, ◌++◌, length, take, drop, set, sym, ap, ◌∙◌, arith}
 use borrow.Rule.Slice.PartMut.{put_mid, post_of}
-use Rattle.std.proofs.lemmas.List.{length-take-le, length-drop, length-append, take-append-le, take_more_set, drop-set-add, drop-append-le, drop-take, drop-drop, append_assoc, take-take, take_at, length-take}
+use Rattle.std.proofs.lemmas.List.{length-take-le, length-drop, length-append, take_more_set, drop-set-add, drop-append-le, drop-take, drop-drop, append_assoc, take-take, take_at}
 use Rattle.byte_lines.specs.Bytes.{Bytes}
 
 abbrev pub window : Bytes → ℕ → ℕ → Bytes

@@ -5,7 +5,7 @@ use Rattle.byte_lines.specs.Bytes.{Bytes}
 use Rattle.byte_lines.specs.Classes.{within}
 use Rattle.source.specs.declared.ends.Fault.{Fault}
 use Rattle.source.specs.declared.ends.End.{End}
-use Rattle.source.specs.declared.ends.End.TheVariants.{Clean, Faulty}
+use Rattle.source.specs.declared.ends.End.TheVariants.{Faulty}
 use Rattle.source.specs.Meanings.{fault}
 use Rattle.coding.specs.Decoding.{Decoded, gives, yields}
 

@@ -1,5 +1,5 @@
 -- A quoted-printable decoder that stands within a line. Assumes nothing.
-use Rattle.std.specs.Prelude.{◌≡◌, ℕ, ◌-◌, ◌++◌, length, take, ◌≢◌}
+use Rattle.std.specs.Prelude.{ℕ, ◌-◌, ◌++◌, length, take, ◌≢◌}
 use Rattle.byte_lines.specs.Bytes.{Bytes}
 use Rattle.source.specs.declared.ends.End.{End}
 use Rattle.coding.specs.declared.quoted.Quoted.{Quoted}

@@ -1,4 +1,5 @@
 //! Transfer codings: what a raw body decodes to, fed in pieces.
+#![tactic(auto)]
 
 mod base64;
 mod decoder;

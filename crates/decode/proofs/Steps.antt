@@ -1,5 +1,5 @@
 -- What a feed and an end leave of a whole body.
-use Rattle.std.proofs.Common.{◌≡◌, ℕ, ◌+◌, ◌-◌, ◌≤◌, Bool, true, false, not, eqb, [], ◌++◌, length, take, drop, sym, ap, ◌∙◌, arith, take_add}
+use Rattle.std.proofs.Common.{◌≡◌, ℕ, ◌+◌, ◌-◌, ◌≤◌, Bool, true, false, not, eqb, [], ◌++◌, length, take, drop, sym, ap, ◌∙◌, arith, take-add}
 use borrow.Rule.Slice.PartMut.{put_mid, post_of}
 use Rattle.std.proofs.lemmas.List.{append-nil, length-take-le, length-drop, take_at, drop_at, take_rest, take-append-le, drop-drop, drop_all}
 use Rattle.byte_lines.specs.Bytes.{Bytes}
@@ -11,7 +11,7 @@ use Rattle.decode.specs.Wholes.{FedAt}
 
 -- a front and so many more
 take_past : (p q : Bytes) (n k : ℕ) → length p ≡ n → take (n + k) (p ++ q) ≡ p ++ take k q
-take_past p q n k l = take_add n k (p ++ q) ∙ ap (λ (t : Bytes). t ++ take k (drop n (p ++ q))) (take_at p q n l) ∙ ap (λ (t : Bytes). p ++ take k t) (drop_at p q n l)
+take_past p q n k l = take-add n k (p ++ q) ∙ ap (λ (t : Bytes). t ++ take k (drop n (p ++ q))) (take_at p q n l) ∙ ap (λ (t : Bytes). p ++ take k t) (drop_at p q n l)
 
 pub fed_at : (m m' : Meaning) (raw : Bytes) (from : ℕ) (out s : Bytes) (to taken given : ℕ) → from ≤ length raw → to ≤ length out
     → length s ≡ length (take (length out - to) (drop to out))

@@ -1,6 +1,7 @@
 //! Decodes a body: `decode (--base64 | --quoted) [--time] [FILE]` writes what FILE, or standard input, decodes to.
 //!
 //! With `--time` it writes how fast the body is decoded, in the best of eight runs, and not the body.
+#![tactic(auto)]
 
 mod options;
 mod whole;

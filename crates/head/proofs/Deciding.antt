@@ -1,10 +1,10 @@
 -- The entity of a head, by the values of three of its fields.
-use Rattle.std.proofs.Common.{◌≡◌, ℕ, ◌<◌, ◌≤◌, Bool, true, false, ◌&&◌, ◌||◌, eqb, ltb, List, [], ◌∷◌, length, Some, None, codes, Option, sym, refl, ap, ◌∙◌, arith}
+use Rattle.std.proofs.Common.{◌≡◌, ℕ, ◌<◌, ◌≤◌, Bool, true, false, ◌&&◌, ◌||◌, eqb, List, [], ◌∷◌, length, Some, None, codes, Option, sym, refl, ap, arith}
 use Rattle.std.proofs.lemmas.Bool.{lt-ltb, or_left, or_right, or_from}
 use Rattle.byte_lines.specs.Bytes.{Bytes}
 use Rattle.byte_lines.specs.Strings.{named}
 use Rattle.head.specs.Fields.{Field, values_of}
-use Rattle.head.specs.Media.{MediaType, media_type}
+use Rattle.head.specs.Media.{MediaType}
 use Rattle.head.specs.Entities.{Coded, Entity, refused, leaf_of, group_of, coding_of, boundary, boundaries, entity_of, typed_entity, twice, entity}
 use Rattle.head.specs.declared.opening.Values.{Values}
 use Rattle.head.specs.declared.opening.Values.TheVariants.{Absent, One, Many}

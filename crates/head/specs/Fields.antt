@@ -1,5 +1,5 @@
 -- The fields of a head. Assumes nothing.
-use Rattle.std.specs.Prelude.{ℕ, Bool, true, false, ◌&&◌, List, [], ◌∷◌, ◌++◌, length}
+use Rattle.std.specs.Prelude.{Bool, true, false, ◌&&◌, List, [], ◌∷◌, ◌++◌, length}
 use Rattle.byte_lines.specs.Bytes.{Bytes}
 use Rattle.byte_lines.specs.Classes.{within, blank}
 use Rattle.byte_lines.specs.Lines.{Line}

@@ -1,5 +1,5 @@
 -- What the code tells of a head's entity, as the definitions say it. Assumes nothing.
-use Rattle.std.specs.Prelude.{◌≡◌, ℕ, ◌<◌, Bool, true, false, ◌&&◌, List, [], ◌∷◌, length, Some, None, Option, ◌==◌}
+use Rattle.std.specs.Prelude.{◌≡◌, ℕ, ◌<◌, true, false, ◌&&◌, List, [], ◌∷◌, length, Some, None, Option, ◌==◌}
 use Rattle.byte_lines.specs.Bytes.{Bytes}
 use Rattle.coding.specs.Codings.{coding_number}
 use Rattle.head.specs.declared.codings.Coded.{Coded as CodedValue}

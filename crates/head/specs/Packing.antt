@@ -1,5 +1,5 @@
 -- How fields lie in the head buffer and in the table. Assumes nothing.
-use Rattle.std.specs.Prelude.{ℕ, ◌+◌, ◌-◌, List, [], ◌∷◌, ◌++◌, length, take, drop, replicate}
+use Rattle.std.specs.Prelude.{ℕ, ◌+◌, ◌-◌, List, [], ◌∷◌, ◌++◌, length, drop, replicate}
 use Rattle.byte_lines.specs.Bytes.{Bytes}
 use Rattle.head.specs.declared.table.Record.{Record}
 use Rattle.head.specs.Fields.{Field}

@@ -1,4 +1,5 @@
 //! Heads: fields, Content-Type, boundary, coding, and every head fault.
+#![tactic(auto)]
 
 mod boundary;
 mod codings;

@@ -1,5 +1,5 @@
 -- What pulls and steps do to what a window shows, and to what its input means.
-use Rattle.std.proofs.Common.{◌≡◌, ℕ, ◌+◌, ◌-◌, ◌<◌, ◌≤◌, true, false, cond, leb, [], ◌++◌, length, take, drop, is_some, Some, None, Option, sym, refl, ap, ◌∙◌, ⊎_elim, arith, take_add}
+use Rattle.std.proofs.Common.{◌≡◌, ℕ, ◌+◌, ◌-◌, ◌<◌, ◌≤◌, true, false, cond, leb, [], ◌++◌, length, take, drop, is_some, Some, None, Option, sym, refl, ap, ◌∙◌, ⊎_elim, arith, take-add}
 use lib.Seq.{take-nil, paste}
 use borrow.Rule.Slice.PartMut.{put_mid}
 use Rattle.std.proofs.lemmas.List.{append_assoc, append-nil, length-append, length-take, length-drop, length-take-le, drop-drop, drop-take, drop_at, drop-append-le, take_at, take_all, take-take}
@@ -13,6 +13,7 @@ use Rattle.source.proofs.Pulling.{Given, Told}
 use Rattle.input.specs.declared.window.Input.{Input}
 use Rattle.input.specs.Inputs.{end_of, behind, finish, standing, passed, shown, known, meaning, unseen, Kept, Knows, AllShown}
 use Rattle.input.specs.Filling.{unended}
+use Rattle.source.specs.declared.sources.Source.{Ghosts}
 
 -- What the window shows, by its bytes and its two places.
 
@@ -32,7 +33,7 @@ shown-more w b d t from to k n h fits e p =
     let after = drop k (drop to w) in
     let sum : to + n - from ≡ to - from + n = omega arith in
     let place : from + (to - from) ≡ to = omega arith in
-    let two = take_add (to - from) n (drop from all) in
+    let two = take-add (to - from) n (drop from all) in
     let front = shown-below w b from to k fits in
     let back = drop-drop (to - from) from all in
     let part = drop_at (take to w) (b ++ after) to (length-take-le to w fits) in
@@ -80,7 +81,7 @@ module _ (v v' : Bytes) (at : ℕ) (m m' : SourceMeaning) {e e' : Option End} (n
       let less : 16777216 - (at + length (v ++ take n s)) ≡ room - n = simp (length-append, length-take) (omega arith) in
       let sum : n + (room - n) ≡ room = omega arith in
       let front = append_assoc v (take n s) (take (room - n) (drop n s)) in
-      let back = take_add n (room - n) s in
+      let back = take-add n (room - n) s in
       let ends = end_of_more s m.ending room n h le in
       let unknown : e' ≡ None = same_end ∙ none in
       cc
@@ -135,7 +136,7 @@ pub nearer-ended : (to : ℕ) (o : Option End) → o ≡ None → (16384 - to) +
 nearer-ended to o none = simp none (omega arith)
 
 -- What holds of every input.
-module _ {S : Type 0} (source : S → SourceMeaning) (i : Input S) where
+module _ {S : Type 0} {G : Ghosts S} (source : S → SourceMeaning) (i : Input S G) where
   pub length-window : length (shown i) ≡ i.to - i.from
   unfolding shown
   length-window = length-shown i.window i.from i.to (omega (arith, i.whole, i.within))
@@ -174,5 +175,5 @@ module _ {S : Type 0} (source : S → SourceMeaning) (i : Input S) where
   pub kept_same : Kept source i i
   kept_same = record { means = refl; shows = begins_same (shown i) refl }
 
-pub kept-twice : {S : Type 0} (source : S → SourceMeaning) (i j k : Input S) → Kept source i j → Kept source j k → Kept source i k
+pub kept-twice : {S : Type 0} {G : Ghosts S} (source : S → SourceMeaning) (i j k : Input S G) → Kept source i j → Kept source j k → Kept source i k
 kept-twice source i j k p q = record { means = q.means ∙ p.means; shows = begins_twice (shown i) (shown j) (shown k) p.shows q.shows }

@@ -2,9 +2,10 @@
 use Rattle.std.specs.Prelude.{ℕ, ◌+◌, ◌-◌, Some, None, Option}
 use Rattle.source.specs.declared.ends.End.{End}
 use Rattle.input.specs.declared.window.Input.{Input}
+use Rattle.source.specs.declared.sources.Source.{Ghosts}
 
 -- how many bytes of the source were taken
-abbrev pub taken : {S : Type 0} → Input S → ℕ
+abbrev pub taken : {S : Type 0} {G : Ghosts S} → Input S G → ℕ
 taken i = i.at + (i.to - i.from)
 
 -- 1 while the end is not known
@@ -13,5 +14,5 @@ unended None = 1
 unended (Some e) = 0
 
 -- what is still to be found out: the window's free places, and the end
-abbrev pub wanting : {S : Type 0} → Input S → ℕ
+abbrev pub wanting : {S : Type 0} {G : Ghosts S} → Input S G → ℕ
 wanting i = (16384 - i.to) + unended i.end

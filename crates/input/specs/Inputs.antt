@@ -5,6 +5,7 @@ use Rattle.source.specs.declared.ends.End.{End}
 use Rattle.source.specs.declared.ends.End.TheVariants.{Faulty}
 use Rattle.source.specs.Meanings.{Meaning as SourceMeaning, fault}
 use Rattle.input.specs.declared.window.Input.{Input}
+use Rattle.source.specs.declared.sources.Source.{Ghosts}
 
 -- what is left of the input, its end, and the offset of the first byte left
 pub record Meaning : Type 0 where
@@ -39,33 +40,33 @@ abbrev pub standing : (v : Bytes) (at : ℕ) (m : SourceMeaning) → Option End 
 standing v at m e = record { left = v ++ behind (16777216 - (at + length v)) m e; ending = finish (16777216 - (at + length v)) m e; offset = at }
 
 -- what the window shows
-unfoldable pub shown : {S : Type 0} → Input S → Bytes
+unfoldable pub shown : {S : Type 0} {G : Ghosts S} → Input S G → Bytes
 shown i = take (i.to - i.from) (drop i.from i.window)
 
 -- the input's end, once it is known
-unfoldable pub known : {S : Type 0} → Input S → Option End
+unfoldable pub known : {S : Type 0} {G : Ghosts S} → Input S G → Option End
 known i = i.end
 
 -- what the input means, by what its source means
-unfoldable pub meaning : {S : Type 0} → (S → SourceMeaning) → Input S → Meaning
+unfoldable pub meaning : {S : Type 0} {G : Ghosts S} → (S → SourceMeaning) → Input S G → Meaning
 meaning source i = standing (shown i) i.at (source i.source) i.end
 
 -- what is left behind what the window shows
-unfoldable pub unseen : {S : Type 0} → (S → SourceMeaning) → Input S → Bytes
+unfoldable pub unseen : {S : Type 0} {G : Ghosts S} → (S → SourceMeaning) → Input S G → Bytes
 unseen source i = behind (16777216 - (i.at + length (shown i))) (source i.source) i.end
 
 -- the window shows all that is left, and the end e behind it is known
-pub record AllShown {S : Type 0} (source : S → SourceMeaning) (i : Input S) (e : End) : Type 0 where
+pub record AllShown {S : Type 0} {G : Ghosts S} (source : S → SourceMeaning) (i : Input S G) (e : End) : Type 0 where
   pub all : (meaning source i).left ≡ shown i
   pub is : (meaning source i).ending ≡ e
   pub told : known i ≡ Some e
 
 -- what the answer to the question for the end says
-abbrev pub Knows : {S : Type 0} → (S → SourceMeaning) → Input S → Option End → Type 0
+abbrev pub Knows : {S : Type 0} {G : Ghosts S} → (S → SourceMeaning) → Input S G → Option End → Type 0
 Knows source i None = known i ≡ None
 Knows source i (Some e) = AllShown source i e
 
 -- the meaning has not changed, and the window shows what it showed, and perhaps more
-pub record Kept {S : Type 0} (source : S → SourceMeaning) (before after : Input S) : Type 0 where
+pub record Kept {S : Type 0} {G : Ghosts S} (source : S → SourceMeaning) (before after : Input S G) : Type 0 where
   pub means : meaning source after ≡ meaning source before
   pub shows : take (length (shown before)) (shown after) ≡ shown before

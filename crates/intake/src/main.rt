@@ -1,6 +1,7 @@
 //! Takes a message in and reports what came.
 //!
 //! `intake [--chunked] [--parcel N] [FILE]` reads FILE, or standard input, in parcels of N bytes.
+#![tactic(auto)]
 
 ghost use Rattle.std.specs.Prelude.{◌≡◌, ◌/◌, ◌<◌, replicate, IfOk};
 

@@ -1,5 +1,5 @@
 -- A line against the open groups.
-use Rattle.std.proofs.Common.{◌≡◌, ℕ, zero, suc, ◌+◌, ◌-◌, ◌<◌, ◌≤◌, min, Bool, true, false, cond, eqb, ◌⊎◌, List, [], ◌∷◌, ◌++◌, length, get_or, take, drop, sym, refl, ap, ◌∙◌, subst, inl, inr, append-nil, add-one, arith, length-append, length-take}
+use Rattle.std.proofs.Common.{◌≡◌, ℕ, zero, suc, ◌+◌, ◌-◌, ◌<◌, ◌≤◌, min, Bool, true, false, cond, ◌⊎◌, List, [], ◌∷◌, ◌++◌, length, get_or, take, drop, sym, refl, ap, ◌∙◌, inl, inr, append-nil, add-one, arith, length-append, length-take}
 use lib.Seq.{take-append-le}
 use Rattle.std.specs.Str.{bytes_eq}
 use Rattle.std.proofs.lemmas.List.{take_all, drop_all}
@@ -10,12 +10,11 @@ use Rattle.byte_lines.specs.Spans.{FirstLine}
 use Rattle.message.specs.Groups.{Group, hyphens, separator, closing_line, Role, separates, closes, text, inside, role}
 use Rattle.levels.specs.declared.levels.Level.{Level}
 use Rattle.levels.specs.declared.levels.Levels.{Levels}
-use Rattle.levels.specs.declared.levels.Fit.{Fit}
-use Rattle.levels.specs.declared.levels.Fit.TheVariants.{Separates, Closes, Text}
+use Rattle.levels.specs.declared.levels.Fit.TheVariants.{Separates, Closes}
 use Rattle.levels.specs.declared.levels.fits.Mark.{Mark}
 use Rattle.levels.specs.declared.levels.fits.Mark.TheVariants.{Separator, Closing, Text as NoMark}
 use Rattle.levels.specs.Opened.{group_of, none, stack, groups}
-use Rattle.levels.specs.Fits.{located, role_by, mark_of, leading, Decides}
+use Rattle.levels.specs.Fits.{located, role_by, mark_of, leading}
 use Rattle.levels.proofs.LeadingLines.{leading_cons, leading-front, leading-found, leading_near}
 
 -- One group.

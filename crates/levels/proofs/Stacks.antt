@@ -1,11 +1,11 @@
 -- Levels as groups: one more, one less, and each by its place.
-use Rattle.std.proofs.Common.{◌≡◌, ℕ, zero, suc, ◌+◌, ◌-◌, ◌<◌, ◌≤◌, Bool, true, false, ltb, List, [], ◌∷◌, length, get_or, drop, set, Some, None, Option, sym, refl, ap, ◌∙◌, add-one, arith, get_or-set_other, get_or-set_same}
+use Rattle.std.proofs.Common.{◌≡◌, ℕ, zero, suc, ◌+◌, ◌-◌, ◌<◌, ◌≤◌, Bool, true, false, List, ◌∷◌, length, get_or, drop, set, sym, refl, ap, ◌∙◌, add-one, arith, get_or-set_other, get_or-set_same}
 use Rattle.std.proofs.lemmas.List.{get_or_default}
 use Rattle.std.proofs.lemmas.Bool.{lt-ltb, le-ltb}
-use Rattle.message.specs.Groups.{Group, innermost}
+use Rattle.message.specs.Groups.{Group}
 use Rattle.levels.specs.declared.levels.Level.{Level}
 use Rattle.levels.specs.declared.levels.Levels.{Levels}
-use Rattle.levels.specs.Opened.{group_of, none, stack, groups, pushed, popped}
+use Rattle.levels.specs.Opened.{group_of, none, stack, groups, pushed}
 
 length-stack : (ls : List Level) (n : ℕ) → length (stack ls n) ≡ n
 length-stack ls zero = refl

@@ -1,7 +1,6 @@
 -- The open groups that levels stand for. Assumes nothing.
 use Rattle.std.specs.Prelude.{ℕ, zero, suc, Bool, true, false, List, [], ◌∷◌, length, replicate, Some, None, Option, nat_lt, slice_index_or, refl}
 use Rattle.std.proofs.Common.{lit≤}
-use Rattle.head.specs.declared.boundary.Boundary.{Boundary}
 use Rattle.head.specs.BoundaryBytes.{boundary_bytes}
 use Rattle.message.specs.Groups.{Group}
 use Rattle.levels.specs.declared.levels.Level.{Level}

@@ -1,4 +1,5 @@
 //! The levels of open groups, and what a line is to them.
+#![tactic(auto)]
 
 mod levels;
 

@@ -1,5 +1,5 @@
 -- The head at the start of a text, found by going from line to line.
-use Rattle.std.proofs.Common.{◌≡◌, ℕ, zero, suc, ◌+◌, ◌<◌, ◌≤◌, Bool, true, false, ◌&&◌, eqb, ltb, List, [], ◌∷◌, ◌++◌, length, take, drop, sym, refl, ap, ◌∙◌, subst, append_assoc, arith, length-append, take_add}
+use Rattle.std.proofs.Common.{◌≡◌, ℕ, zero, suc, ◌+◌, ◌<◌, ◌≤◌, Bool, true, false, ◌&&◌, eqb, ltb, List, [], ◌∷◌, ◌++◌, length, take, drop, sym, refl, ap, ◌∙◌, subst, append_assoc, arith, length-append, take-add}
 use mathlib.Core.Bool.{false≢true}
 use Rattle.std.proofs.lemmas.List.{append-nil, drop-drop, take_all, drop_all, take-append-drop, length-drop, length-take-le}
 use Rattle.std.proofs.lemmas.Bool.{lt-ltb}
@@ -9,7 +9,7 @@ use Rattle.byte_lines.specs.Lines.{Line, AllEnded, line_bytes, width, onto, line
 use Rattle.byte_lines.proofs.LineFronts.{lines-append}
 use Rattle.byte_lines.proofs.LineLaws.{first, first-onto, joined-lines}
 use Rattle.head.specs.Fields.{is_field, continues}
-use Rattle.head.specs.LineFaults.{Verdict, passes, faulty, judged, unclean}
+use Rattle.head.specs.LineFaults.{Verdict, faulty, judged, unclean}
 use Rattle.head.specs.Media.{absent}
 use Rattle.message.specs.Groups.{Group, role, text, inside, fits}
 use Rattle.message.specs.Heads.{Head, at_line, at_empty, at_end, and_line, head}
@@ -47,7 +47,7 @@ pub walked_line : (gs : List Group) (at : ℕ) (s : Bytes) (k len : ℕ) → Wal
 walked_line gs at s k len w l f a =
     let c = take len (drop k s) in
     let more : lines (take (k + (len + 2)) s) ≡ lines (take k s) ++ (line c true ∷ []) =
-    ap lines (take_add k (len + 2) s) ∙ lines-append (take k s) (take (len + 2) (drop k s)) w.ended ∙ ap (λ (ls : List Line). lines (take k s) ++ ls) (whole-alone s k len l) in
+    ap lines (take-add k (len + 2) s) ∙ lines-append (take k s) (take (len + 2) (drop k s)) w.ended ∙ ap (λ (ls : List Line). lines (take k s) ++ ls) (whole-alone s k len l) in
     record {
       within = l.within;
       ended = subst AllEnded (sym more) (ended-more (lines (take k s)) (line c true) w.ended refl);
@@ -290,7 +290,7 @@ head-over gs at s k n l l' r w e f a h e' h' =
     ∙ ap (λ (m : List Line). lines (take k s) ++ (head gs (at + k) m).lines) e
     ∙ ap (λ (x : Head). lines (take k s) ++ x.lines) (head_more gs (at + k) l r f a) in
     let there : lines (take (k + n) s) ≡ lines (take k s) ++ (l' ∷ []) =
-    ap lines (take_add k n s) ∙ lines-append (take k s) (take n (drop k s)) w.ended ∙ ap (λ (m : List Line). lines (take k s) ++ m) e' in (
+    ap lines (take-add k n s) ∙ lines-append (take k s) (take n (drop k s)) w.ended ∙ ap (λ (m : List Line). lines (take k s) ++ m) e' in (
       ap (judged 0 0) here ∙ judged-over 0 0 (lines (take k s)) l l' rest [] (omega arith) (omega arith) ∙ ap (judged 0 0) (sym there),
       subst (λ (m : List Line). Fails (judged 0 0 m)) (sym there) (over-fails 0 0 (lines (take k s)) l' [] (omega arith)),
     )

@@ -5,7 +5,7 @@ use Rattle.std.specs.Str.{bytes_eq}
 use Rattle.std.proofs.lemmas.Slice.Eq.{bytes_eq-Decides}
 use Rattle.byte_lines.specs.Bytes.{Bytes}
 use Rattle.message.specs.Groups.{Group, Role, separates, closes, text, separator, closing_line, role, inside, fits}
-use Rattle.message.specs.GroupLaws.{Apart, RoleSays}
+use Rattle.message.specs.GroupLaws.{RoleSays}
 
 differ : (xs ys : Bytes) → bytes_eq xs ys ≡ false → ys ≡ xs → ⊥
 differ xs ys f e = false≢true (sym f ∙ (bytes_eq-Decides xs ys).1 (sym e))

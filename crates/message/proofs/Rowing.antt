@@ -1,9 +1,6 @@
 -- Every row proceeds.
 use Rattle.std.proofs.Common.{◌≡◌, ℕ, suc, ◌+◌, Bool, true, false, List, [], ◌∷◌, ◌++◌, length, sym, refl, ap, ◌∙◌, subst, append_assoc, add-one}
-use Rattle.std.proofs.lemmas.List.{append-nil}
-use Rattle.byte_lines.specs.Bytes.{Bytes}
 use Rattle.byte_lines.specs.Lines.{Line, width, lines}
-use Rattle.source.specs.declared.ends.Fault.{Fault}
 use Rattle.source.specs.declared.ends.End.{End}
 use Rattle.source.specs.declared.ends.End.TheVariants.{Clean, Faulty}
 use Rattle.input.specs.Inputs.{first}
@@ -14,11 +11,11 @@ use Rattle.head.specs.Entities as entities
 use Rattle.head.specs.Entities.{Entity, entity}
 use Rattle.message.specs.declared.events.Event.{Event}
 use Rattle.message.specs.Groups.{Group, innermost, Role, role, separates, closes, text}
-use Rattle.message.specs.Entries.{Entry, Body, close_event}
+use Rattle.message.specs.Entries.{Entry}
 use Rattle.message.specs.Heads.{Head, head}
 use Rattle.message.specs.Bodies.{end_in}
 use Rattle.message.specs.Rows.{Opening, fails, opens_leaf, opens_group, closing, told, new_group, Mode, heading, passing, opens, last_entry, line_row, head_end, unless, opening_by, opening, row, row_of}
-use Rattle.message.specs.RowLaws.{Opens, Shuts, Proceeds, RowsProceed}
+use Rattle.message.specs.RowLaws.{Opens, Proceeds, RowsProceed}
 use Rattle.message.proofs.Roles.{Splits, role_splits}
 
 -- the openings os are those of the open groups gs, deepest first

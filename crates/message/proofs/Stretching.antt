@@ -1,9 +1,9 @@
 -- The raw bodies of a row are stretches of the input, one behind the other.
 use Rattle.std.proofs.Common.{◌≡◌, ℕ, ◌+◌, ◌≤◌, Bool, true, false, cond, List, [], ◌∷◌, ◌++◌, length, take, drop, sym, refl, ap, ◌∙◌, subst, append_assoc, arith, length-append}
 use Rattle.std.specs.List.{flat_map}
-use Rattle.std.proofs.lemmas.List.{append-nil, take_at, drop_at, drop-drop}
+use Rattle.std.proofs.lemmas.List.{take_at, drop_at, drop-drop}
 use Rattle.byte_lines.specs.Bytes.{Bytes}
-use Rattle.byte_lines.specs.Lines.{Line, line_bytes, width, lines, crlf}
+use Rattle.byte_lines.specs.Lines.{Line, line_bytes, width, lines}
 use Rattle.byte_lines.proofs.LineLaws.{joined-lines}
 use Rattle.source.specs.declared.ends.End.{End}
 use Rattle.source.specs.declared.ends.End.TheVariants.{Clean, Faulty}

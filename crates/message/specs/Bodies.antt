@@ -24,6 +24,6 @@ end_in (g ∷ gs) at Clean = Faulty (fault 32 3 at)
 end_in (g ∷ gs) at (Faulty f) = Faulty f
 
 -- the end that a body meets which goes on at the offset `at`: clean where a line ends it, else the end e of the input
-unfoldable pub body_end_lem : List Group → (at : ℕ) → List Line → End → End
-body_end_lem gs at [] e = end_in gs at e
-body_end_lem gs at (l ∷ ls) e = elim (fits (role gs l.content)) [ true ↦ Clean | false ↦ body_end_lem gs (at + width l) ls e ]
+unfoldable pub body_end : List Group → (at : ℕ) → List Line → End → End
+body_end gs at [] e = end_in gs at e
+body_end gs at (l ∷ ls) e = elim (fits (role gs l.content)) [ true ↦ Clean | false ↦ body_end gs (at + width l) ls e ]

@@ -18,7 +18,7 @@ use Rattle.message.specs.declared.events.Event.{Event}
 use Rattle.message.specs.Groups.{Group, innermost, Role, role, separates, closes, text}
 use Rattle.message.specs.Entries.{Entry, Body, leaf, opened, closed, ended, failed, event, close_event, end_event}
 use Rattle.message.specs.Heads.{Stop, at_line, at_empty, at_end, Head, head}
-use Rattle.message.specs.Bodies.{body, body_end_lem, end_in}
+use Rattle.message.specs.Bodies.{body, body_end, end_in}
 
 -- what an entity does as its head ends: it fails, or it opens, as a leaf or as a group
 pub data Opening : Type 0 where
@@ -90,7 +90,7 @@ module _ (e : End) where
       opens_group (event AGroup n (innermost gs) (length gs) at Plain 0 (length fs)) fs (record { number = n; boundary = b })
   opening_by gs n at h fs (entities.leaf coding marks) =
       opens_leaf (event Leaf n (innermost gs) (length gs) at (coding_by coding) marks (length fs)) fs
-      (record { from = h.from; raw = body gs h.rest; ending = body_end_lem gs h.from h.rest e })
+      (record { from = h.from; raw = body gs h.rest; ending = body_end gs h.from h.rest e })
 
   -- entity n inside the groups gs, whose head begins at the offset `at`, with the lines from there on
   unfoldable pub opening : List Group → (n at : ℕ) → List Line → Opening

@@ -1,4 +1,5 @@
 //! Messages: the levels of open groups, the line test, and the definition of a message's row of events.
+#![tactic(auto)]
 
 mod events;
 mod laws;

@@ -24,6 +24,7 @@ use Rattle.levels.specs.declared.levels.Fit.TheVariants.{Closes, Text}
 use Rattle.reader.specs.Stages.{is_of, fits_by}
 use Rattle.reader.specs.Readers.{ahead_by, last_of}
 use Rattle.reader.specs.Nexts.{end_by, Standing, Passed}
+use Rattle.source.specs.declared.sources.Source.{Ghosts}
 
 -- whether a line that fits is empty is nothing to it
 pub fits_flag : (r : Role) (gs : List Group) (n : ℕ) (m : Mode) (at : ℕ) (b c : Bool) (o : List Group → Opening) (a : List Group → ℕ → Mode → List Entry) → fits r ≡ true
@@ -45,7 +46,7 @@ row_line e gs n at l ls fit i s is f ends next rest =
     ∙ ap (λ (x : List Line). line_row (role_by gs fit) gs n passing at false (λ gs'. opening i.ending gs' (n + 1) i.offset x) (λ gs' n' m'. row i.ending gs' n' m' i.offset x)) rest
 
 -- the input's end, as it is met inside the groups
-pub end_met : {S : Type 0} (source : S → SourceMeaning) (i : Input S) (gs : List Group) (o : Option End) (depth at : ℕ) → Knows source i o → is_some (known i) ≡ true → depth ≡ length gs
+pub end_met : {S : Type 0} {G : Ghosts S} (source : S → SourceMeaning) (i : Input S G) (gs : List Group) (o : Option End) (depth at : ℕ) → Knows source i o → is_some (known i) ≡ true → depth ≡ length gs
     → end_by o depth at ≡ end_in gs at (input_meaning source i).ending
 end_met source i gs None depth at k h d = absurd (false≢true (sym (ap is_some k) ∙ h))
 end_met source i gs (Some e) depth at k h d =

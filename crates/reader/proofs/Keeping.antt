@@ -6,11 +6,12 @@ use Rattle.input.specs.declared.window.Input.{Input}
 use Rattle.source.specs.Meanings.{Meaning as SourceMeaning}
 use Rattle.scan.specs.declared.scans.Scan.{Scan}
 use Rattle.scan.specs.Streams.{owed, passed_over}
+use Rattle.source.specs.declared.sources.Source.{Ghosts}
 
-module _ {S : Type 0} (a b : Scan S) where
+module _ {S : Type 0} {G : Ghosts S} (a b : Scan S G) where
   pub passed-same : b.input ≡ a.input → passed_over b ≡ passed_over a
   unfolding passed_over
-  passed-same e = ap (λ (i : Input S). i.at) e
+  passed-same e = ap (λ (i : Input S G). i.at) e
 
   -- no CRLF is owed then
   pub still-within : (place : ℕ) → place + owed a.place ≤ passed_over a → owed b.place ≡ 0 → passed_over a ≤ passed_over b → place + owed b.place ≤ passed_over b

@@ -11,7 +11,7 @@ use Rattle.coding.specs.Codings.{decoded}
 use Rattle.input.specs.Inputs.{Meaning as InputMeaning, meaning as input_meaning}
 use Rattle.message.specs.Groups.{Group}
 use Rattle.message.specs.Heads.{Stop as HeadStop, at_line, at_empty, at_end}
-use Rattle.message.specs.Bodies.{body, body_end_lem, end_in}
+use Rattle.message.specs.Bodies.{body, body_end, end_in}
 use Rattle.message.specs.Entries.{Entry}
 use Rattle.message.specs.Rows.{heading, passing, last_entry, row}
 use Rattle.levels.specs.declared.levels.Fit.{Fit}
@@ -24,6 +24,7 @@ use Rattle.reader.specs.declared.reader.Stage.{Stage}
 use Rattle.reader.specs.declared.reader.Stage.TheVariants.{Head, Body, Between, Line as AtGroupLine, Over}
 use Rattle.reader.specs.declared.reader.Reader.{Reader}
 use Rattle.reader.specs.Readers.{meaning}
+use Rattle.source.specs.declared.sources.Source.{Ghosts}
 
 -- a group is closed next, and no entity opened
 abbrev pub Closing : Fit → Type 0
@@ -75,7 +76,7 @@ number_of (Some n) = n
 number_of None = 0
 
 -- the entry x was told
-pub record Tells {S : Type 0} (source : S → SourceMeaning) (before after : Reader S) (x : Entry) : Type 0 where
+pub record Tells {S : Type 0} {G : Ghosts S} (source : S → SourceMeaning) (before after : Reader S G) (x : Entry) : Type 0 where
   pub ahead : (meaning source before).ahead ≡ x ∷ (meaning source after).ahead
   pub part : (meaning source after).part ≡ opens x
   pub number : after.number ≡ before.number
@@ -83,7 +84,7 @@ pub record Tells {S : Type 0} (source : S → SourceMeaning) (before after : Rea
 
 -- the decoded body that begins at the offset `from`, with the lines from there on, inside the groups gs
 abbrev pub body_at : Coding → List Group → (from : ℕ) → List Line → End → Decoded
-body_at c gs from ls e = decoded c from (body gs ls) (body_end_lem gs from ls e)
+body_at c gs from ls e = decoded c from (body gs ls) (body_end gs from ls e)
 
 -- what ends a head
 abbrev pub stop_by : HeadEnd → HeadStop
@@ -98,9 +99,9 @@ behind_head e hs gs n at_line from rest = row e gs n (heading hs) from rest
 behind_head e hs gs n at_empty from rest = row e (hs ++ gs) n passing from rest
 behind_head e hs gs n at_end from rest = last_entry (end_in (hs ++ gs) from e) n from
 
-module _ {S : Type 0} (source : S → SourceMeaning) where
+module _ {S : Type 0} {G : Ghosts S} (source : S → SourceMeaning) where
   -- a leaf's part is open, whose body begins behind the first `width` bytes of the input
-  pub record LeafOpens (before after : Reader S) (width : ℕ) (c : Coding) : Type 0 where
+  pub record LeafOpens (before after : Reader S G) (width : ℕ) (c : Coding) : Type 0 where
     pub ahead : (i : InputMeaning) → i ≡ input_meaning source before.scan.input
         → (meaning source after).ahead ≡ row i.ending (groups before.scan.levels) (before.entities + 1) passing (i.offset + width) (lines (drop width i.left))
     pub part : (i : InputMeaning) → i ≡ input_meaning source before.scan.input → (d : Decoded)
@@ -110,7 +111,7 @@ module _ {S : Type 0} (source : S → SourceMeaning) where
     pub delivered : after.delivered ≡ before.delivered
 
   -- a group is open behind the first `width` bytes of the input, which are its head
-  pub record GroupOpens (before after : Reader S) (width : ℕ) (end : HeadEnd) (boundary : Bytes) : Type 0 where
+  pub record GroupOpens (before after : Reader S G) (width : ℕ) (end : HeadEnd) (boundary : Bytes) : Type 0 where
     pub ahead : (i : InputMeaning) → i ≡ input_meaning source before.scan.input
         → (meaning source after).ahead
         ≡ behind_head i.ending (record { number = before.entities + 1; boundary = boundary } ∷ []) (groups before.scan.levels) (before.entities + 1) (stop_by end)

@@ -19,6 +19,7 @@ use Rattle.reader.specs.declared.reader.Last.TheVariants.{End as AtEnd, Fault as
 use Rattle.reader.specs.declared.reader.Stage.{Stage}
 use Rattle.reader.specs.declared.reader.Stage.TheVariants.{Head, Body, Between, Line, Over}
 use Rattle.reader.specs.declared.reader.Reader.{Reader}
+use Rattle.source.specs.declared.sources.Source.{Ghosts}
 
 -- the entry that a message ends with
 abbrev pub last_of : Last → Entry
@@ -44,17 +45,17 @@ part_by Between n d = None
 part_by (Line fit at) n d = None
 part_by (Over last) n d = None
 
-module _ {S : Type 0} (source : S → SourceMeaning) where
+module _ {S : Type 0} {G : Ghosts S} (source : S → SourceMeaning) where
   -- the end that the body at hand meets
-  unfoldable pub body_ending : Scan S → End
+  unfoldable pub body_ending : Scan S G → End
   body_ending s = end_at (groups s.levels) (stop source s) (input_meaning source s.input).ending
 
   -- what is left of the decoded body
-  unfoldable pub decoded_left : Reader S → Decoded
+  unfoldable pub decoded_left : Reader S G → Decoded
   decoded_left r = outlook (decoder_meaning r.decoder) (raw_left source r.scan) (body_ending r.scan)
 
   -- what a reader means
-  unfoldable pub meaning : Reader S → Meaning
+  unfoldable pub meaning : Reader S G → Meaning
   meaning r =
       record {
         number = r.number;

@@ -8,9 +8,10 @@ use Rattle.scan.specs.declared.scans.Scan.{Scan}
 use Rattle.scan.specs.Streams.{owed}
 use Rattle.reader.specs.declared.reader.Stage.{Stage}
 use Rattle.reader.specs.declared.reader.Stage.TheVariants.{Head, Body, Between, Line, Over}
+use Rattle.source.specs.declared.sources.Source.{Ghosts}
 
 -- how many bytes of a CRLF that was passed over are still to be given
-abbrev pub owing : {S : Type 0} → Scan S → ℕ
+abbrev pub owing : {S : Type 0} {G : Ghosts S} → Scan S G → ℕ
 owing s = owed s.place
 
 -- how many entities there may be besides one for each byte passed over: each but the first stands behind a separator
@@ -35,5 +36,5 @@ fits_by Between gs = true
 fits_by (Line fit at) gs = is_of fit gs
 fits_by (Over last) gs = true
 
-abbrev pub line_fits : {S : Type 0} → Stage → Scan S → Bool
+abbrev pub line_fits : {S : Type 0} {G : Ghosts S} → Stage → Scan S G → Bool
 line_fits st s = fits_by st (groups s.levels)

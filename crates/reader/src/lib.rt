@@ -1,4 +1,5 @@
 //! The reader of messages: next, read, pour, finish, skip and delivered.
+#![tactic(auto)]
 
 mod answers;
 mod reader;

@@ -1,5 +1,5 @@
 -- The moves of a scan.
-use Rattle.std.proofs.Common.{◌≡◌, ℕ, zero, suc, ◌+◌, ◌*◌, ◌<◌, ◌≤◌, min, Bool, true, false, List, [], ◌∷◌, ◌++◌, length, take, is_some, sym, refl, ap, ◌∙◌, subst, append_assoc, append-nil, arith, length-append, length-take}
+use Rattle.std.proofs.Common.{◌≡◌, ℕ, zero, suc, ◌+◌, ◌<◌, ◌≤◌, min, Bool, true, false, [], ◌++◌, length, take, is_some, sym, refl, ap, ◌∙◌, subst, append_assoc, append-nil, arith, length-append, length-take}
 use Rattle.byte_lines.specs.Bytes.{Bytes}
 use Rattle.byte_lines.specs.Lines.{lines}
 use Rattle.source.specs.Meanings.{Meaning as SourceMeaning}
@@ -13,18 +13,19 @@ use Rattle.levels.specs.declared.levels.Levels.{Levels}
 use Rattle.scan.specs.declared.places.Place.{Place}
 use Rattle.scan.specs.declared.places.Place.TheVariants.{Start, Return, Feed, Within, Ended}
 use Rattle.scan.specs.declared.places.Next.{Next}
-use Rattle.scan.specs.declared.places.Next.TheVariants.{Byte, Nothing, Unknown}
+use Rattle.scan.specs.declared.places.Next.TheVariants.{Nothing, Unknown}
 use Rattle.scan.specs.declared.scans.Scan.{Scan}
 use Rattle.levels.specs.Opened.{groups}
 use Rattle.levels.specs.Fits.{role_by, InDepth, leading}
 use Rattle.scan.specs.Streams.{in_line, body_at, raw_left, stop_at, stop, owed, Moves, place_by, next_of, rank, weight}
-use Rattle.scan.specs.Ready.{ready_in, ready_at_lem, ready, place_past}
+use Rattle.scan.specs.Ready.{ready_in, ready_at, ready, place_past}
 use Rattle.scan.specs.Settles.{Found}
 use Rattle.scan.proofs.BodyPlaces.{begun-left, begun-stop, begun-weight, break-left, break-stop, break-weight, break_shown, last_shown, last-left, last-stop}
 use Rattle.scan.proofs.ReadyBytes.{ready_at_lem, ready-fits, ready-within, run-gives, run-stops, past-gives, past-stops}
 use Rattle.scan.proofs.Endings.{unseen-known}
+use Rattle.source.specs.declared.sources.Source.{Ghosts}
 
-owed-past : (p : Place) (v : Bytes) (all : Bool) (k : ℕ) → k ≤ ready_at_lem p v all → (p ≡ Within → ⊥) → owed (place_past p k) + k ≤ owed p
+owed-past : (p : Place) (v : Bytes) (all : Bool) (k : ℕ) → k ≤ ready_at p v all → (p ≡ Within → ⊥) → owed (place_past p k) + k ≤ owed p
 owed-past (Start held) v all k h out = omega arith
 owed-past Return v all zero h out = omega arith
 owed-past Return v all (suc zero) h out = omega arith
@@ -42,11 +43,11 @@ owed_begun (Closes i) held = omega arith
 owed_begun Text true = omega arith
 owed_begun Text false = omega arith
 
-module _ {S : Type 0} (source : S → SourceMeaning) where
-  pub moves-none : (a : Scan S) → Moves source a a []
+module _ {S : Type 0} {G : Ghosts S} (source : S → SourceMeaning) where
+  pub moves-none : (a : Scan S G) → Moves source a a []
   moves-none a = record { gives = refl; stops = refl; ends = refl; inside = refl; later = omega arith; further = omega arith }
 
-  pub moves-twice : (a b c : Scan S) (x y : Bytes) → Moves source a b x → Moves source b c y → Moves source a c (x ++ y)
+  pub moves-twice : (a b c : Scan S G) (x y : Bytes) → Moves source a b x → Moves source b c y → Moves source a c (x ++ y)
   moves-twice a b c x y g h =
       record {
         gives = append_assoc x y (raw_left source c) ∙ ap (λ (t : Bytes). x ++ t) h.gives ∙ g.gives;
@@ -58,7 +59,7 @@ module _ {S : Type 0} (source : S → SourceMeaning) where
       }
 
   -- what places, groups and the input's meaning make of a move
-  pub moves-by : (a b : Scan S) (x : Bytes) → b.levels ≡ a.levels
+  pub moves-by : (a b : Scan S G) (x : Bytes) → b.levels ≡ a.levels
       → x ++ body_at (groups a.levels) b.place (meaning source b.input).left ≡ raw_left source a
       → stop_at (groups a.levels) b.place (meaning source b.input).offset (meaning source b.input).left ≡ stop source a
       → (meaning source b.input).ending ≡ (meaning source a.input).ending
@@ -76,7 +77,7 @@ module _ {S : Type 0} (source : S → SourceMeaning) where
       }
 
   -- the input means what it did
-  pub moves-same : (a b : Scan S) → b.levels ≡ a.levels → b.place ≡ a.place → meaning source b.input ≡ meaning source a.input → Moves source a b []
+  pub moves-same : (a b : Scan S G) → b.levels ≡ a.levels → b.place ≡ a.place → meaning source b.input ≡ meaning source a.input → Moves source a b []
   unfolding raw_left stop
   moves-same a b levels place means =
       let gs = groups a.levels in
@@ -86,7 +87,7 @@ module _ {S : Type 0} (source : S → SourceMeaning) where
       (ap (λ (m : Meaning). m.ending) means) (omega (arith, ap (λ (m : Meaning). m.offset) means)) (omega (arith, ap owed place, ap (λ (m : Meaning). m.offset) means))
 
   -- n of the bytes that stand ready are passed over, or all of them: k
-  module _ (a b : Scan S) (n k : ℕ) (many : k ≡ min n (ready a)) (levels : b.levels ≡ a.levels) where
+  module _ (a b : Scan S G) (n k : ℕ) (many : k ≡ min n (ready a)) (levels : b.levels ≡ a.levels) where
     pub moves-run : a.place ≡ Within → b.place ≡ a.place → meaning source b.input ≡ passed (min k (length (shown a.input))) (meaning source a.input)
         → Moves source a b (take (min n (ready a)) (raw_left source a))
     unfolding raw_left stop
@@ -119,26 +120,26 @@ module _ {S : Type 0} (source : S → SourceMeaning) where
         let m = meaning source a.input in
         let v = shown a.input in
         let all = is_some (known a.input) in
-        let h : k ≤ ready_at_lem a.place v all = omega arith in
+        let h : k ≤ ready_at a.place v all = omega arith in
         moves-by a b _ levels
         (ap (λ (j : ℕ). take j (raw_left source a) ++ body_at gs b.place (meaning source b.input).left) (sym many)
         ∙ ap (λ (p : Place). take k (raw_left source a) ++ body_at gs p (meaning source b.input).left) place
-        ∙ ap (λ (i : Input S). take k (raw_left source a) ++ body_at gs (place_past a.place k) (meaning source i).left) input
+        ∙ ap (λ (i : Input S G). take k (raw_left source a) ++ body_at gs (place_past a.place k) (meaning source i).left) input
         ∙ past-gives gs m.left a.place v all k h outside)
         (ap (λ (p : Place). stop_at gs p (meaning source b.input).offset (meaning source b.input).left) place
-        ∙ ap (λ (i : Input S). stop_at gs (place_past a.place k) (meaning source i).offset (meaning source i).left) input
+        ∙ ap (λ (i : Input S G). stop_at gs (place_past a.place k) (meaning source i).offset (meaning source i).left) input
         ∙ past-stops gs m.left a.place v all m.offset k h outside)
-        (ap (λ (i : Input S). (meaning source i).ending) input) (omega (arith, ap (λ (i : Input S). (meaning source i).offset) input))
+        (ap (λ (i : Input S G). (meaning source i).ending) input) (omega (arith, ap (λ (i : Input S G). (meaning source i).offset) input))
         (omega (
           arith,
           ap owed place,
-          ap (λ (i : Input S). (meaning source i).offset) input,
+          ap (λ (i : Input S G). (meaning source i).offset) input,
           length-take (min n (ready a)) (raw_left source a),
           owed-past a.place v all k h outside,
         ))
 
   -- A line was tested with the answer f, and nothing was passed over.
-  module _ (a b : Scan S) (held : Bool) (f : Fit) (at : a.place ≡ Start held) (to : b.place ≡ place_by f held) (levels : b.levels ≡ a.levels)
+  module _ (a b : Scan S G) (held : Bool) (f : Fit) (at : a.place ≡ Start held) (to : b.place ≡ place_by f held) (levels : b.levels ≡ a.levels)
       (means : meaning source b.input ≡ meaning source a.input) where
     pub moves-begun : role_by (groups a.levels) f ≡ role (groups a.levels) (leading (meaning source b.input).left) → InDepth (length (groups a.levels)) f → Moves source a b []
     unfolding raw_left stop
@@ -153,11 +154,11 @@ module _ {S : Type 0} (source : S → SourceMeaning) where
     begun-nearer = begun-weight (groups a.levels) held a.place b.place f at to (meaning source a.input) (meaning source b.input) means
 
   -- Within a line, after a fill that left i for the input.
-  module _ (a : Scan S) (here : a.place ≡ Within) (i : Input S) (kept : meaning source i ≡ meaning source a.input) where
+  module _ (a : Scan S G) (here : a.place ≡ Within) (i : Input S G) (kept : meaning source i ≡ meaning source a.input) where
     front : (meaning source a.input).left ≡ shown i ++ unseen source i
     front = ap (λ (m : Meaning). m.left) (sym kept) ∙ shown-first source i
 
-    module _ (b : Scan S) (levels : b.levels ≡ a.levels) where
+    module _ (b : Scan S G) (levels : b.levels ≡ a.levels) where
       -- past the line's CRLF
       pub moves-break : b.place ≡ Start true → meaning source b.input ≡ passed (min 2 (length (shown i))) (meaning source i) → next_of (shown i) ≡ Unknown
           → Moves source a b [] × (weight source b < weight source a)
@@ -191,7 +192,7 @@ module _ {S : Type 0} (source : S → SourceMeaning) where
           (ap (λ (x : Meaning). x.ending) same) (omega (arith, ap (λ (x : Meaning). x.offset) same)) (omega (arith, ap owed place, ap (λ (x : Meaning). x.offset) same))
 
   -- All the body was passed over.
-  pub moves-all : (a b : Scan S) (x : Bytes) → Moves source a b x → raw_left source b ≡ [] → Moves source a b (raw_left source a)
+  pub moves-all : (a b : Scan S G) (x : Bytes) → Moves source a b x → raw_left source b ≡ [] → Moves source a b (raw_left source a)
   moves-all a b x g none =
       let all : x ≡ raw_left source a = sym (append-nil x) ∙ ap (λ (z : Bytes). x ++ z) (sym none) ∙ g.gives in
       record {
@@ -204,7 +205,7 @@ module _ {S : Type 0} (source : S → SourceMeaning) where
       }
 
   -- What was taken leaves less.
-  pub moves-less : (a b : Scan S) (n : ℕ) → Moves source a b (take (min n (ready a)) (raw_left source a)) → 0 < n → 0 < ready a → length (raw_left source b) < length (raw_left source a)
+  pub moves-less : (a b : Scan S G) (n : ℕ) → Moves source a b (take (min n (ready a)) (raw_left source a)) → 0 < n → 0 < ready a → length (raw_left source b) < length (raw_left source a)
   moves-less a b n g some h =
       let k = min n (ready a) in
       omega (
@@ -215,5 +216,5 @@ module _ {S : Type 0} (source : S → SourceMeaning) where
         ready-within source a,
       )
 
-  pub found-by : (s : Scan S) (w : ℕ) {r r' : Next} → r ≡ r' → Found source r' s w → Found source r s w
+  pub found-by : (s : Scan S G) (w : ℕ) {r r' : Next} → r ≡ r' → Found source r' s w → Found source r s w
   found-by s w e h = subst (λ (x : Next). Found source x s w) (sym e) h

@@ -11,11 +11,10 @@ use Rattle.message.specs.Bodies.{body_from}
 use Rattle.levels.specs.declared.levels.Fit.{Fit}
 use Rattle.levels.specs.declared.levels.Fit.TheVariants.{Separates, Closes, Text}
 use Rattle.scan.specs.declared.places.Place.{Place}
-use Rattle.scan.specs.declared.places.Place.TheVariants.{Start, Return, Feed, Within, Ended}
-use Rattle.scan.specs.declared.places.Next.{Next}
+use Rattle.scan.specs.declared.places.Place.TheVariants.{Start, Within}
 use Rattle.scan.specs.declared.places.Next.TheVariants.{Byte, Nothing, Unknown}
 use Rattle.levels.specs.Fits.{role_by, InDepth, leading, content}
-use Rattle.scan.specs.Streams.{in_line, body_at, Stop, stop_from, stop_in, stop_at, place_by, next_of, rank}
+use Rattle.scan.specs.Streams.{in_line, body_at, stop_from, stop_in, stop_at, place_by, next_of, rank}
 use Rattle.levels.proofs.LineTests.{role_other, located_is}
 use Rattle.levels.proofs.LeadingLines.{lines-crlf}
 

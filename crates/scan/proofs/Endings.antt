@@ -1,10 +1,9 @@
 -- What a scan knows where a body has ended.
-use Rattle.std.proofs.Common.{◌≡◌, ℕ, zero, suc, ◌<◌, ◌≤◌, min, Bool, true, false, ◌&&◌, ◌||◌, eqb, leb, ◌⊎◌, List, [], ◌∷◌, ◌++◌, length, is_some, Some, None, Option, sym, refl, ap, ◌∙◌, subst, inl, inr, append-nil, arith}
+use Rattle.std.proofs.Common.{◌≡◌, ℕ, suc, ◌<◌, min, Bool, true, false, ◌&&◌, ◌||◌, eqb, leb, List, [], ◌∷◌, ◌++◌, length, is_some, Some, None, Option, sym, refl, ap, ◌∙◌, subst, inl, inr, append-nil, arith}
 use mathlib.Core.Bool.{false≢true}
 use Rattle.std.specs.Str.{bytes_eq}
 use Rattle.std.proofs.lemmas.Bool.{eqb-true, eq-eqb, le-leb, lt-leb, cases_lt}
 use Rattle.byte_lines.specs.Bytes.{Bytes}
-use Rattle.byte_lines.specs.Lines.{lines}
 use Rattle.source.specs.declared.ends.End.{End}
 use Rattle.source.specs.Meanings.{Meaning}
 use Rattle.input.specs.declared.window.Input.{Input}
@@ -18,12 +17,13 @@ use Rattle.scan.specs.declared.places.Place.{Place}
 use Rattle.scan.specs.declared.places.Place.TheVariants.{Ended}
 use Rattle.scan.specs.declared.scans.Scan.{Scan}
 use Rattle.levels.specs.Opened.{groups}
-use Rattle.levels.specs.Fits.{located, role_by, InDepth, leading, Decides}
+use Rattle.levels.specs.Fits.{role_by, InDepth, leading, Decides}
 use Rattle.scan.specs.Ends.{separates_at, closes_at, enough, ends_by, tested, answer}
 use Rattle.scan.specs.Streams.{raw_left, stop, body_at, stop_at, place_by}
 use Rattle.scan.specs.Settles.{Behind}
 use Rattle.levels.proofs.LeadingLines.{leading-none}
 use Rattle.levels.proofs.LineTests.{near_decides, role_other, located_is}
+use Rattle.source.specs.declared.sources.Source.{Ghosts}
 
 pub both : (p q : Bool) → p && q ≡ true → (p ≡ true) × (q ≡ true)
 both true q e = (refl, e)
@@ -110,7 +110,7 @@ behind-known : (room : ℕ) (m : Meaning) (e : Option End) → is_some e ≡ tru
 behind-known room m None h = absurd (false≢true h)
 behind-known room m (Some x) h = refl
 
-pub unseen-known : {S : Type 0} (source : S → Meaning) (i : Input S) → is_some (known i) ≡ true → unseen source i ≡ []
+pub unseen-known : {S : Type 0} {G : Ghosts S} (source : S → Meaning) (i : Input S G) → is_some (known i) ≡ true → unseen source i ≡ []
 unfolding known unseen
 unseen-known source i h = behind-known _ (source i.source) i.end h
 
@@ -144,7 +144,7 @@ module _ (ls : Levels) (v q : Bytes) (e : Option End) (all : is_some e ≡ true 
   ended-last Text t k = ended-empty t
 
 -- wherever a scan's place is that of an ended body, it stands behind that body
-pub behind-ended : {S : Type 0} (source : S → Meaning) (s : Scan S) (f : Fit) → s.place ≡ Ended f → Behind source s
+pub behind-ended : {S : Type 0} {G : Ghosts S} (source : S → Meaning) (s : Scan S G) (f : Fit) → s.place ≡ Ended f → Behind source s
 unfolding raw_left stop
 behind-ended source s f at =
     let gs = groups s.levels in
@@ -165,6 +165,6 @@ behind-ended source s f at =
     }
 
 -- at the input's end, the end is known
-pub ended-known : {S : Type 0} (s : Scan S) → s.place ≡ Ended Text → is_some (known s.input) ≡ true
+pub ended-known : {S : Type 0} {G : Ghosts S} (s : Scan S G) → s.place ≡ Ended Text → is_some (known s.input) ≡ true
 ended-known s at =
     (both (eqb (length (shown s.input)) 0) (is_some (known s.input)) (sym (ap (λ (p : Place). tested s.levels p (shown s.input) (known s.input)) at) ∙ s.ended)).1

@@ -1,13 +1,14 @@
 -- A line of a group is passed over whole.
-use Rattle.std.proofs.Common.{◌≡◌, ℕ, ◌+◌, ◌<◌, ◌≤◌, Bool, true, false, cond, ltb, List, [], ◌∷◌, ◌++◌, length, take, drop, sym, refl, ap, ◌∙◌, subst, inl, inr, arith, length-append, length-take}
+use Rattle.std.proofs.Common.{◌≡◌, ℕ, ◌+◌, ◌<◌, ◌≤◌, Bool, true, false, cond, ltb, List, [], ◌∷◌, ◌++◌, length, take, drop, sym, refl, ap, ◌∙◌, subst, inl, inr, arith, length-take}
 use mathlib.Core.Bool.{false≢true}
-use Rattle.std.proofs.lemmas.List.{append_assoc, take-append-drop, take-append-le, drop-append-le, take_all, drop_all, length-take-le}
-use Rattle.std.proofs.lemmas.Bool.{cases_Bool, cases_lt, ltb-true, ltb-false, le-ltb}
+use Rattle.std.proofs.lemmas.List.{append_assoc, take-append-drop, take-append-le, drop-append-le, drop_all, length-take-le}
+use Rattle.std.proofs.lemmas.Bool.{cases_Bool, cases_lt, ltb-true}
 use Rattle.byte_lines.specs.Bytes.{Bytes}
 use Rattle.byte_lines.specs.Lines.{Line, lines, width}
 use Rattle.byte_lines.specs.Spans.{FirstLine}
 use Rattle.byte_lines.proofs.LineLaws.{first}
-use Rattle.message.specs.Groups.{Group, role, text, fits}
+use Rattle.byte_lines.proofs.LineFronts.{first-stays}
+use Rattle.message.specs.Groups.{role, text, fits}
 use Rattle.message.proofs.HeadSpans.{open_last}
 use Rattle.levels.specs.declared.levels.Levels.{Levels}
 use Rattle.levels.specs.Opened.{groups}
@@ -56,7 +57,7 @@ module _ (ls : Levels) (s v u : Bytes) (len wide : ℕ) (e : s ≡ v ++ u) (all 
       let front : s ≡ take wide v ++ (drop wide v ++ u) = e ∙ ap (λ (z : Bytes). z ++ u) (sym (take-append-drop wide v)) ∙ append_assoc (take wide v) (drop wide v) u in
       let rest : drop wide v ++ u ≡ drop wide s = sym (drop-append-le wide v u f.within) ∙ ap (drop wide) (sym e) in
       let found : lines s ≡ line (take len v) true ∷ lines (drop wide s) =
-      ap lines front ∙ f.stays (ltb-true len wide t) (drop wide v ++ u) ∙ ap (λ (z : Bytes). line (take len v) true ∷ lines z) rest in
+      ap lines front ∙ first-stays v len wide (drop wide v ++ u) f (ltb-true len wide t) ∙ ap (λ (z : Bytes). line (take len v) true ∷ lines z) rest in
       record {
         line = line (take len v) true;
         splits = found;

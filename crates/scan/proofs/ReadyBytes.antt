@@ -5,7 +5,7 @@ use lib.Seq.{take-nil}
 use Rattle.std.proofs.lemmas.List.{drop_all, append-nil}
 use Rattle.std.proofs.lemmas.Bool.{eqb-true, eqb-false, eq-eqb, cases_Bool}
 use Rattle.byte_lines.specs.Bytes.{Bytes}
-use Rattle.byte_lines.specs.Lines.{Line, lines, onto}
+use Rattle.byte_lines.specs.Lines.{lines, onto}
 use Rattle.byte_lines.proofs.LineLaws.{onto_all}
 use Rattle.source.specs.Meanings.{Meaning as SourceMeaning}
 use Rattle.input.specs.Inputs.{Meaning, meaning, passed, shown, known, unseen}
@@ -14,15 +14,15 @@ use Rattle.message.specs.Groups.{Group}
 use Rattle.message.specs.Bodies.{body_from}
 use Rattle.scan.specs.declared.places.Place.{Place}
 use Rattle.scan.specs.declared.places.Place.TheVariants.{Start, Return, Feed, Within, Ended}
-use Rattle.scan.specs.declared.places.Next.{Next}
-use Rattle.scan.specs.declared.places.Next.TheVariants.{Byte, Nothing, Unknown}
+use Rattle.scan.specs.declared.places.Next.TheVariants.{Byte, Unknown}
 use Rattle.scan.specs.declared.scans.Scan.{Scan}
 use Rattle.levels.specs.Opened.{groups}
-use Rattle.scan.specs.Streams.{in_line, body_at, raw_left, Stop, stop_in, stop_at, next_of}
-use Rattle.scan.specs.Ready.{until_cr, lone_cr, ready_in, ready_at_lem, ready, waiting, place_past}
+use Rattle.scan.specs.Streams.{in_line, body_at, raw_left, stop_in, stop_at, next_of}
+use Rattle.scan.specs.Ready.{until_cr, lone_cr, ready_in, ready_at, ready, waiting, place_past}
 use Rattle.levels.proofs.LeadingLines.{lines_on, lines_cons}
 use Rattle.scan.proofs.BodyPlaces.{in_line_all, stop_in_all}
 use Rattle.scan.proofs.Endings.{both, unseen-known}
+use Rattle.source.specs.declared.sources.Source.{Ghosts}
 
 -- The bytes before the first CR.
 
@@ -162,7 +162,7 @@ module _ (gs : List Group) (m : Meaning) (v q : Bytes) (all : Bool) (front : m.l
 
 -- before a line
 module _ (gs : List Group) (s : Bytes) where
-  pub past-gives : (p : Place) (v : Bytes) (all : Bool) (n : ℕ) → n ≤ ready_at_lem p v all → (p ≡ Within → ⊥) → take n (body_at gs p s) ++ body_at gs (place_past p n) s ≡ body_at gs p s
+  pub past-gives : (p : Place) (v : Bytes) (all : Bool) (n : ℕ) → n ≤ ready_at p v all → (p ≡ Within → ⊥) → take n (body_at gs p s) ++ body_at gs (place_past p n) s ≡ body_at gs p s
   past-gives (Start held) v all n h w = ap (λ (k : ℕ). take k (body_from gs held (lines s)) ++ body_from gs held (lines s)) {y = 0} (omega arith)
   past-gives Return v all zero h w = refl
   past-gives Return v all (suc zero) h w = refl
@@ -174,7 +174,7 @@ module _ (gs : List Group) (s : Bytes) where
   past-gives Within v all n h w = absurd (w refl)
   past-gives (Ended f) v all n h w = append-nil (take n []) ∙ take-nil n
 
-  pub past-stops : (p : Place) (v : Bytes) (all : Bool) (at n : ℕ) → n ≤ ready_at_lem p v all → (p ≡ Within → ⊥) → stop_at gs (place_past p n) at s ≡ stop_at gs p at s
+  pub past-stops : (p : Place) (v : Bytes) (all : Bool) (at n : ℕ) → n ≤ ready_at p v all → (p ≡ Within → ⊥) → stop_at gs (place_past p n) at s ≡ stop_at gs p at s
   past-stops (Start held) v all at n h w = refl
   past-stops Return v all at zero h w = refl
   past-stops Return v all at (suc zero) h w = refl
@@ -188,7 +188,7 @@ module _ (gs : List Group) (s : Bytes) where
 
 -- the bytes that stand ready are the first of those that wait
 module _ (gs : List Group) (m : Meaning) (v q : Bytes) (all : Bool) (front : m.left ≡ v ++ q) (none : all ≡ true → q ≡ []) where
-  pub waiting-front : (p : Place) (n : ℕ) → n ≤ ready_at_lem p v all → take n (waiting p v) ≡ take n (body_at gs p m.left)
+  pub waiting-front : (p : Place) (n : ℕ) → n ≤ ready_at p v all → take n (waiting p v) ≡ take n (body_at gs p m.left)
   waiting-front (Start held) n h = ap (λ (k : ℕ). take k v) {y = 0} (omega arith) ∙ ap (λ (k : ℕ). take k (body_at gs (Start held) m.left)) {x = 0} (omega arith)
   waiting-front Return zero h = refl
   waiting-front Return (suc zero) h = refl
@@ -200,7 +200,7 @@ module _ (gs : List Group) (m : Meaning) (v q : Bytes) (all : Bool) (front : m.l
   waiting-front Within n h = run-front gs m v q all front none n h
   waiting-front (Ended f) n h = ap (λ (k : ℕ). take k v) {y = 0} (omega arith) ∙ sym (take-nil n)
 
-pub waiting_many : (p : Place) (v : Bytes) (all : Bool) → ready_at_lem p v all ≤ length (waiting p v)
+pub waiting_many : (p : Place) (v : Bytes) (all : Bool) → ready_at p v all ≤ length (waiting p v)
 waiting_many (Start held) v all = omega arith
 waiting_many Return v all = omega arith
 waiting_many Feed v all = omega arith
@@ -208,10 +208,10 @@ waiting_many Within v all = ready-fits v all
 waiting_many (Ended f) v all = omega arith
 
 -- What stands ready of a scan's body.
-module _ {S : Type 0} (source : S → SourceMeaning) (s : Scan S) where
-  pub ready_at_lem : (p : Place) → s.place ≡ p → ready s ≡ ready_at_lem p (shown s.input) (is_some (known s.input))
+module _ {S : Type 0} {G : Ghosts S} (source : S → SourceMeaning) (s : Scan S G) where
+  pub ready_at_lem : (p : Place) → s.place ≡ p → ready s ≡ ready_at p (shown s.input) (is_some (known s.input))
   unfolding ready
-  ready_at_lem p at = ap (λ (x : Place). ready_at_lem x (shown s.input) (is_some (known s.input))) at
+  ready_at_lem p at = ap (λ (x : Place). ready_at x (shown s.input) (is_some (known s.input))) at
 
   pub ready-some : s.place ≡ Within → 0 < ready_in (shown s.input) (is_some (known s.input)) → 0 < ready s
   ready-some at h = omega (arith, ready_at_lem Within at)

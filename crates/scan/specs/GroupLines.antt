@@ -1,5 +1,5 @@
 -- A line of a group that was passed over. Assumes nothing.
-use Rattle.std.specs.Prelude.{◌≡◌, ℕ, ◌+◌, ◌<◌, ◌≤◌, true, [], ◌∷◌, length, is_some, Some, None, Option}
+use Rattle.std.specs.Prelude.{◌≡◌, ◌+◌, ◌<◌, ◌≤◌, true, [], ◌∷◌, length, is_some, Some, None, Option}
 use Rattle.byte_lines.specs.Lines.{Line, lines, width}
 use Rattle.source.specs.Meanings.{Meaning}
 use Rattle.input.specs.Inputs.{meaning, known}
@@ -9,15 +9,16 @@ use Rattle.levels.specs.Fits.{role_by, InDepth}
 use Rattle.scan.specs.declared.scans.lines.GroupLine.{GroupLine}
 use Rattle.scan.specs.declared.scans.Scan.{Scan}
 use Rattle.scan.specs.Streams.{stop, passed_over, owed}
+use Rattle.source.specs.declared.sources.Source.{Ghosts}
 
 -- nothing of the groups and of the input's end has changed, and no CRLF is held back
-pub record Onward {S : Type 0} (source : S → Meaning) (before after : Scan S) : Type 0 where
+pub record Onward {S : Type 0} {G : Ghosts S} (source : S → Meaning) (before after : Scan S G) : Type 0 where
   pub ends : (meaning source after.input).ending ≡ (meaning source before.input).ending
   pub inside : after.levels ≡ before.levels
   pub clear : owed after.place ≡ 0
 
 -- the line that ended the body is that line, and the scan stands behind it
-pub record BehindLine {S : Type 0} (source : S → Meaning) (before after : Scan S) (r : GroupLine) : Type 0 where
+pub record BehindLine {S : Type 0} {G : Ghosts S} (source : S → Meaning) (before after : Scan S G) (r : GroupLine) : Type 0 where
   pub onward : Onward source before after
   pub line : Line
   pub here : stop source before ≡ record { from = r.at; lines = line ∷ lines (meaning source after.input).left }
@@ -28,7 +29,7 @@ pub record BehindLine {S : Type 0} (source : S → Meaning) (before after : Scan
   pub further : passed_over before < passed_over after
 
 -- the input's end ended the body, and the scan stands there
-pub record BehindAll {S : Type 0} (source : S → Meaning) (before after : Scan S) : Type 0 where
+pub record BehindAll {S : Type 0} {G : Ghosts S} (source : S → Meaning) (before after : Scan S G) : Type 0 where
   pub onward : Onward source before after
   pub here : stop source before ≡ record { from = (meaning source after.input).offset; lines = [] }
   pub none : (meaning source after.input).left ≡ []
@@ -36,6 +37,6 @@ pub record BehindAll {S : Type 0} (source : S → Meaning) (before after : Scan 
   pub further : passed_over before ≤ passed_over after
 
 -- what came behind the body
-abbrev pub NextLine : {S : Type 0} → (S → Meaning) → (before after : Scan S) → Option GroupLine → Type 0
+abbrev pub NextLine : {S : Type 0} {G : Ghosts S} → (S → Meaning) → (before after : Scan S G) → Option GroupLine → Type 0
 NextLine source before after None = BehindAll source before after
 NextLine source before after (Some r) = BehindLine source before after r

@@ -6,6 +6,7 @@ use Rattle.input.specs.Inputs.{shown, known}
 use Rattle.scan.specs.declared.places.Place.{Place}
 use Rattle.scan.specs.declared.places.Place.TheVariants.{Start, Return, Feed, Within, Ended}
 use Rattle.scan.specs.declared.scans.Scan.{Scan}
+use Rattle.source.specs.declared.sources.Source.{Ghosts}
 
 -- how many bytes stand before the first CR
 unfoldable pub until_cr : Bytes → ℕ
@@ -23,16 +24,16 @@ abbrev pub ready_in : (v : Bytes) → (all : Bool) → ℕ
 ready_in v all = cond (lone_cr v all) 1 (until_cr v)
 
 -- how many bytes of the body stand ready at a place
-abbrev pub ready_at_lem : Place → (v : Bytes) → (all : Bool) → ℕ
-ready_at_lem (Start held) v all = 0
-ready_at_lem Return v all = 2
-ready_at_lem Feed v all = 1
-ready_at_lem Within v all = ready_in v all
-ready_at_lem (Ended f) v all = 0
+abbrev pub ready_at : Place → (v : Bytes) → (all : Bool) → ℕ
+ready_at (Start held) v all = 0
+ready_at Return v all = 2
+ready_at Feed v all = 1
+ready_at Within v all = ready_in v all
+ready_at (Ended f) v all = 0
 
 -- how many bytes of the body stand ready
-unfoldable pub ready : {S : Type 0} → Scan S → ℕ
-ready s = ready_at_lem s.place (shown s.input) (is_some (known s.input))
+unfoldable pub ready : {S : Type 0} {G : Ghosts S} → Scan S G → ℕ
+ready s = ready_at s.place (shown s.input) (is_some (known s.input))
 
 -- a text that begins with the bytes that stand ready at a place where v is shown
 abbrev pub waiting : Place → (v : Bytes) → Bytes

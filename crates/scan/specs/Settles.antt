@@ -14,9 +14,10 @@ use Rattle.levels.specs.Fits.{role_by, InDepth, leading}
 use Rattle.scan.specs.Ends.{answer}
 use Rattle.scan.specs.Streams.{raw_left, stop, weight}
 use Rattle.scan.specs.Ready.{ready}
+use Rattle.source.specs.declared.sources.Source.{Ghosts}
 
 -- the scan stands behind the body: where it stops, at a line that is as the scan's answer says, or at the input's end, and then the answer is text
-pub record Behind {S : Type 0} (source : S → Meaning) (s : Scan S) : Type 0 where
+pub record Behind {S : Type 0} {G : Ghosts S} (source : S → Meaning) (s : Scan S G) : Type 0 where
   pub none : raw_left source s ≡ []
   pub here : stop source s ≡ record { from = (meaning source s.input).offset; lines = lines (meaning source s.input).left }
   pub line : role_by (groups s.levels) (answer s.place) ≡ role (groups s.levels) (leading (meaning source s.input).left)
@@ -25,7 +26,7 @@ pub record Behind {S : Type 0} (source : S → Meaning) (s : Scan S) : Type 0 wh
   pub place : s.place ≡ Ended (answer s.place)
 
 -- what was found to come next, where w was the weight before
-abbrev pub Found : {S : Type 0} → (S → Meaning) → Next → Scan S → (w : ℕ) → Type 0
+abbrev pub Found : {S : Type 0} {G : Ghosts S} → (S → Meaning) → Next → Scan S G → (w : ℕ) → Type 0
 Found source Byte s w = 0 < ready s
 Found source Nothing s w = Behind source s
 Found source Unknown s w = weight source s < w

@@ -16,6 +16,7 @@ use Rattle.scan.specs.declared.places.Next.{Next}
 use Rattle.scan.specs.declared.places.Next.TheVariants.{Byte, Nothing, Unknown}
 use Rattle.scan.specs.declared.scans.Scan.{Scan}
 use Rattle.levels.specs.Opened.{groups}
+use Rattle.source.specs.declared.sources.Source.{Ghosts}
 
 -- the body from within a line that does not end it
 abbrev pub in_line : List Group → List Line → Bytes
@@ -31,7 +32,7 @@ body_at gs Within s = in_line gs (lines s)
 body_at gs (Ended f) s = []
 
 -- what is left of the raw body
-unfoldable pub raw_left : {S : Type 0} → (S → Meaning) → Scan S → Bytes
+unfoldable pub raw_left : {S : Type 0} {G : Ghosts S} → (S → Meaning) → Scan S G → Bytes
 raw_left source s = body_at (groups s.levels) s.place (meaning source s.input).left
 
 -- where a body stops: at a line that fits a group, or at the input's end; by the offset and the lines from there on
@@ -58,7 +59,7 @@ stop_at gs Within at s = stop_in gs at (lines s)
 stop_at gs (Ended f) at s = record { from = at; lines = lines s }
 
 -- where the body stops
-unfoldable pub stop : {S : Type 0} → (S → Meaning) → Scan S → Stop
+unfoldable pub stop : {S : Type 0} {G : Ghosts S} → (S → Meaning) → Scan S G → Stop
 stop source s = stop_at (groups s.levels) s.place (meaning source s.input).offset (meaning source s.input).left
 
 -- a body's end, by its stop: clean where lines are left, else the input's end as it is met inside the groups
@@ -74,11 +75,11 @@ owed Within = 0
 owed (Ended f) = 0
 
 -- how many bytes of the input were passed over
-unfoldable pub passed_over : {S : Type 0} → Scan S → ℕ
+unfoldable pub passed_over : {S : Type 0} {G : Ghosts S} → Scan S G → ℕ
 passed_over s = s.input.at
 
 -- the scan moved on by these bytes of the body, and nothing else has changed: the body stops where it did, in the same groups, and the input ends as it did
-pub record Moves {S : Type 0} (source : S → Meaning) (before after : Scan S) (given : Bytes) : Type 0 where
+pub record Moves {S : Type 0} {G : Ghosts S} (source : S → Meaning) (before after : Scan S G) (given : Bytes) : Type 0 where
   pub gives : given ++ raw_left source after ≡ raw_left source before
   pub stops : stop source after ≡ stop source before
   pub ends : (meaning source after.input).ending ≡ (meaning source before.input).ending
@@ -88,7 +89,7 @@ pub record Moves {S : Type 0} (source : S → Meaning) (before after : Scan S) (
   pub further : (meaning source before.input).offset + owed after.place + length given ≤ (meaning source after.input).offset + owed before.place
 
 -- the scan stands before a line, and holds no CRLF back
-abbrev pub AtLine : {S : Type 0} → Scan S → Type 0
+abbrev pub AtLine : {S : Type 0} {G : Ghosts S} → Scan S G → Type 0
 AtLine s = s.place ≡ Start false
 
 -- the place at a line's start, by what the line is
@@ -112,5 +113,5 @@ rank Within = 1
 rank (Ended f) = 0
 
 -- what there is to do yet
-unfoldable pub weight : {S : Type 0} → (S → Meaning) → Scan S → ℕ
+unfoldable pub weight : {S : Type 0} {G : Ghosts S} → (S → Meaning) → Scan S G → ℕ
 weight source s = 4 * length (meaning source s.input).left + rank s.place

@@ -1,4 +1,5 @@
 //! A leaf's raw body through the input's window, and the lines between bodies.
+#![tactic(auto)]
 
 mod places;
 mod scans;

@@ -1,5 +1,5 @@
 -- The values of the store and of the tally. Assumes nothing.
-use Rattle.std.specs.Prelude.{ℕ, ◌+◌, ◌-◌, ◌*◌, ◌%◌, ◌^◌, min, List, [], ◌∷◌, ◌++◌, length, take, drop, bit_xor}
+use Rattle.std.specs.Prelude.{ℕ, ◌+◌, ◌-◌, ◌*◌, ◌%◌, ◌^◌, min, [], ◌∷◌, ◌++◌, length, take, drop, bit_xor}
 use Rattle.sink.specs.declared.store.Store.{Store}
 use Rattle.sink.specs.declared.tally.Tally.{Tally}
 use Rattle.byte_lines.specs.Bytes.{Bytes}

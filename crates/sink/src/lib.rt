@@ -1,4 +1,5 @@
 //! Sinks: what they mean, a store of bytes, and a tally of them.
+#![tactic(auto)]
 
 mod sinks;
 mod store;

@@ -1,7 +1,6 @@
 -- What a caller learns from a pull, by its answer.
-use Rattle.std.proofs.Common.{◌≡◌, ℕ, ◌<◌, ◌≤◌, List, [], ◌∷◌, ◌++◌, length, take, drop, sym, refl, ap, ◌∙◌, arith}
+use Rattle.std.proofs.Common.{◌≡◌, ℕ, ◌<◌, ◌≤◌, [], ◌∷◌, ◌++◌, length, take, drop, sym, refl, ap, ◌∙◌, arith}
 use Rattle.std.proofs.lemmas.List.{append_assoc, drop-append-le, take-append-drop}
-use Rattle.source.specs.declared.ends.Fault.{Fault}
 use Rattle.source.specs.declared.ends.End.{End}
 use Rattle.source.specs.declared.ends.End.TheVariants.{Clean, Faulty}
 use Rattle.source.specs.declared.sources.Pulled.TheVariants.{Gave, Ended}

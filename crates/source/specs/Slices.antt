@@ -1,5 +1,5 @@
 -- The meanings of the sources over a slice: a block, and parcels. Assumes nothing.
-use Rattle.std.specs.Prelude.{ℕ, zero, suc, min, List, [], ◌∷◌, ◌++◌, length, take, drop}
+use Rattle.std.specs.Prelude.{ℕ, zero, suc, min, List, [], ◌∷◌, length, take, drop}
 use Rattle.source.specs.declared.block.Block.{Block}
 use Rattle.source.specs.declared.parcels.Parcels.{Parcels}
 use Rattle.source.specs.declared.ends.End.TheVariants.{Clean}

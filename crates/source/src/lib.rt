@@ -1,4 +1,5 @@
 //! Byte sources: what they mean, and those that give a slice.
+#![tactic(auto)]
 
 mod block;
 mod ends;

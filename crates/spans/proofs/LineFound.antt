@@ -1,10 +1,9 @@
 -- What one line of a window says of the head.
 use Rattle.std.proofs.Common.{◌≡◌, ℕ, ◌+◌, ◌-◌, ◌<◌, ◌≤◌, min, Bool, true, false, cond, eqb, ltb, leb, List, [], ◌∷◌, ◌++◌, length, take, drop, sym, refl, ap, ◌∙◌, subst, inl, inr, arith, length-append}
-use mathlib.Core.Bool.{false≢true}
 use Rattle.std.proofs.lemmas.List.{drop-append-le, take-append-le, take-take, take_all, length-drop, length-take-le}
 use Rattle.std.proofs.lemmas.Bool.{cases_Bool, cases_lt, ltb-true, ltb-false, eqb-true, eqb-false, leb-true, leb-false, le-ltb}
 use Rattle.byte_lines.specs.Bytes.{Bytes}
-use Rattle.byte_lines.specs.Lines.{Line, width, lines}
+use Rattle.byte_lines.specs.Lines.{Line, lines}
 use Rattle.byte_lines.specs.Spans.{FirstLine}
 use Rattle.byte_lines.specs.declared.lines.LineSpan.{LineSpan}
 use Rattle.head.specs.Media.{absent}
@@ -12,6 +11,7 @@ use Rattle.message.specs.Groups.{Group, role, text, fits}
 use Rattle.message.specs.HeadWalks.{Walked, WholeLine}
 use Rattle.message.proofs.HeadSpans.{whole-first, whole-alone, walked_line, stops-at-empty, stops-at-end, stops-in-line, long_line, long_some, open_last, head-over}
 use Rattle.byte_lines.proofs.LineLaws.{first}
+use Rattle.byte_lines.proofs.LineFronts.{first-stays}
 use Rattle.levels.specs.Fits.{leading, content}
 use Rattle.spans.specs.declared.heads.HeadEnd.TheVariants.{Empty, End, Long}
 use Rattle.spans.specs.declared.heads.HeadLine.{HeadLine}
@@ -90,7 +90,7 @@ module _ (gs : List Group) (at : ℕ) (s v u : Bytes) (k seen len wide : ℕ)
         counts = length-take-le len rest (omega (arith, f.within, size, total, length-drop k s));
         stays = λ q.
             ap (λ (x : Bytes). lines (x ++ q)) (sym (ap (λ (n : ℕ). take n (take (seen - k) (drop k v))) two ∙ front (len + 2) (omega (arith, f.within, size))))
-            ∙ f.stays (omega arith) q
+            ∙ first-stays (take (seen - k) (drop k v)) len wide q f (omega arith)
             ∙ ap (λ (x : Bytes). line x true ∷ lines q) (front len (omega (arith, f.within, size)));
       }
 

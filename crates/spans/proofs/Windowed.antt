@@ -1,23 +1,21 @@
 -- What a window shows of a head.
-use Rattle.std.proofs.Common.{◌≡◌, ℕ, zero, suc, ◌+◌, ◌-◌, ◌<◌, ◌≤◌, min, Bool, true, false, cond, eqb, ltb, leb, List, [], ◌∷◌, ◌++◌, length, take, drop, is_some, Some, None, Option, sym, refl, ap, ◌∙◌, subst, inl, inr, arith, length-append, length-take}
+use Rattle.std.proofs.Common.{◌≡◌, ℕ, zero, suc, ◌+◌, ◌-◌, ◌<◌, ◌≤◌, min, true, false, List, [], ◌∷◌, ◌++◌, length, take, drop, is_some, Some, None, Option, sym, refl, ap, ◌∙◌, inl, inr, arith, length-append, length-take}
 use mathlib.Core.Bool.{false≢true}
-use Rattle.std.proofs.lemmas.List.{append-nil, drop-append-le, take-append-le, take_rest, length-drop, length-take-le, take-take, take_all}
-use Rattle.std.proofs.lemmas.Bool.{cases_Bool, ltb-true, ltb-false, eqb-true, eqb-false, leb-true, leb-false, lt-ltb, cases_lt}
+use Rattle.std.proofs.lemmas.List.{drop-append-le, take_rest, length-drop}
+use Rattle.std.proofs.lemmas.Bool.{cases_lt}
 use Rattle.byte_lines.specs.Bytes.{Bytes}
-use Rattle.byte_lines.specs.Lines.{Line, lines}
-use Rattle.byte_lines.specs.Spans.{FirstLine}
 use Rattle.source.specs.declared.ends.End.{End}
 use Rattle.source.specs.Meanings.{Meaning as SourceMeaning}
 use Rattle.input.specs.declared.window.Input.{Input}
-use Rattle.input.specs.Inputs.{meaning, shown, unseen, known, Kept, AllShown}
+use Rattle.input.specs.Inputs.{shown, known, Kept, AllShown}
 use Rattle.input.specs.Filling.{unended}
-use Rattle.input.proofs.Windows.{shown-first}
 use Rattle.message.specs.Groups.{Group, Role, role, separates, closes, text, inside, fits}
 use Rattle.levels.specs.declared.levels.Fit.{Fit}
 use Rattle.levels.specs.declared.levels.Fit.TheVariants.{Separates, Closes, Text}
 use Rattle.levels.specs.Fits.{located, role_by, InDepth, leading, Decides}
+use Rattle.source.specs.declared.sources.Source.{Ghosts}
 
-pub grows : {S : Type 0} (source : S → SourceMeaning) (i j : Input S) → Kept source i j → length (shown i) ≤ length (shown j)
+pub grows : {S : Type 0} {G : Ghosts S} (source : S → SourceMeaning) (i j : Input S G) → Kept source i j → length (shown i) ≤ length (shown j)
 grows source i j k = omega (arith, ap length (sym k.shows), length-take (length (shown i)) (shown j))
 
 unended-none : (o : Option End) → is_some o ≡ false → unended o ≡ 1
@@ -29,7 +27,7 @@ unended_most None = omega arith
 unended_most (Some e) = omega arith
 
 -- a fill of one byte more shows one, or finds the end out
-pub nearer : {S : Type 0} (source : S → SourceMeaning) (i j : Input S) (e : End) → Kept source i j → is_some (known i) ≡ false → length (shown i) < 16384
+pub nearer : {S : Type 0} {G : Ghosts S} (source : S → SourceMeaning) (i j : Input S G) (e : End) → Kept source i j → is_some (known i) ≡ false → length (shown i) < 16384
     → (length (shown j) < min (length (shown i) + 1) 16384 → AllShown source j e)
     → (16384 - length (shown j)) + unended (known j) < (16384 - length (shown i)) + unended (known i)
 nearer source i j e k none room shows =

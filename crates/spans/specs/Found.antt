@@ -7,7 +7,6 @@ use Rattle.head.specs.LineFaults.{judged}
 use Rattle.message.specs.Groups.{Group, role, fits}
 use Rattle.message.specs.Heads.{at_line, at_empty, at_end, head}
 use Rattle.message.specs.HeadWalks.{Walked, Fails}
-use Rattle.levels.specs.declared.levels.Fit.{Fit}
 use Rattle.levels.specs.Fits.{role_by, InDepth, leading}
 use Rattle.spans.specs.declared.heads.HeadEnd.{HeadEnd}
 use Rattle.spans.specs.declared.heads.HeadEnd.TheVariants.{Line, Empty, End, Long}

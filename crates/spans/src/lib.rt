@@ -1,4 +1,5 @@
 //! Where a head ends, found in the input's window.
+#![tactic(auto)]
 
 mod heads;
 

@@ -1,5 +1,5 @@
 -- One step of a transfer leaves what it comes to.
-use Rattle.std.proofs.Common.{◌≡◌, ℕ, ◌+◌, ◌-◌, ◌<◌, ◌≤◌, true, false, cond, ltb, [], ◌++◌, length, take, drop, sym, refl, ap, ◌∙◌, ⊎_elim, arith, take_add}
+use Rattle.std.proofs.Common.{◌≡◌, ℕ, ◌+◌, ◌-◌, ◌<◌, ◌≤◌, [], ◌++◌, length, take, drop, sym, ap, ◌∙◌, ⊎_elim, arith, take-add}
 use Rattle.std.proofs.lemmas.List.{length-take-le, length-drop, take-append-drop, take_at, drop-drop}
 use Rattle.std.proofs.lemmas.Bool.{cases_lt, lt-ltb, le-ltb}
 use Rattle.byte_lines.specs.Bytes.{Bytes, Answer}
@@ -34,7 +34,7 @@ moved {V} s e k n comes fits =
     let back : drop (k.space - length (take n s)) (drop n s) ≡ drop k.space s =
     ap (λ (j : ℕ). drop j (drop n s)) rest ∙ drop-drop (k.space - n) n s ∙ ap (λ (j : ℕ). drop j s) whole in
     let front : take n s ++ take (k.space - length (take n s)) (drop n s) ≡ take k.space s =
-    ap (λ (j : ℕ). take n s ++ take j (drop n s)) rest ∙ sym (take_add n (k.space - n) s) ∙ ap (λ (j : ℕ). take j s) whole in
+    ap (λ (j : ℕ). take n s ++ take j (drop n s)) rest ∙ sym (take-add n (k.space - n) s) ∙ ap (λ (j : ℕ). take j s) whole in
     let both = stepped-append k (take n s) (take (k.space - length (take n s)) (drop n s)) ∙ ap (stepped k) front in
     drained_full (means (drop n s) e) (stepped k (take n s)) (omega arith)
     ∙ ap (λ (z : Bytes). ((5, []), means z e, stepped (stepped k (take n s)) (take (k.space - length (take n s)) (drop n s)))) back

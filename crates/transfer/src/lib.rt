@@ -1,4 +1,5 @@
 //! All that a source gives, into a sink.
+#![tactic(auto)]
 
 mod drains;
 

@@ -8,13 +8,13 @@ use Rattle.head.specs.Media.{quoted_content, pieces, parameters}
 use Rattle.head.specs.Entities.{boundaries, entity}
 use Rattle.message.specs.Groups.{role}
 use Rattle.message.specs.Heads.{head}
-use Rattle.message.specs.Bodies.{body_from, body_end_lem}
+use Rattle.message.specs.Bodies.{body_from, body_end}
 use Rattle.message.specs.Rows.{opening, row, row_of}
 use Rattle.cases.specs.Messages.{MessageExamples, spliced, wire, nest}
 use Rattle.cases.proofs.worked_messages.Goals as goal
 
 messages : MessageExamples
-unfolding lines trim_start trim_end before after sextets octets data_part has_equals base64_from gathered values_of judged quoted_content pieces parameters boundaries entity role head body_from body_end_lem opening row row_of spliced wire nest
+unfolding lines trim_start trim_end before after sextets octets data_part has_equals base64_from gathered values_of judged quoted_content pieces parameters boundaries entity role head body_from body_end opening row row_of spliced wire nest
 messages =
     record {
       empty_input = (refl, refl);

@@ -1,4 +1,4 @@
-use Rattle.std.proofs.Common.{◌≡◌, ℕ, suc, length, sym, subst, add-one, arith, below_more}
+use Rattle.std.proofs.Common.{◌≡◌, ℕ, suc, length, subst, add-one, arith, below_more}
 use lib.ListN.{get_or-eq_default}
 use Rattle.byte_lines.proofs.FirstLines.{NoneBefore, first_ended, first_open}
 use Rattle.byte_lines.proofs.lines.first_line.Goals as goal

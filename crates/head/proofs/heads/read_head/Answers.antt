@@ -1,9 +1,7 @@
-use Rattle.std.proofs.Common.{◌≡◌, ℕ, ◌-◌, leb, List, [], ◌∷◌, length, sym, refl, ap, ◌∙◌, ⊎_elim, arith}
+use Rattle.std.proofs.Common.{ℕ, ◌-◌, leb, [], ◌∷◌, length, sym, refl, ap, ◌∙◌, ⊎_elim, arith}
 use Rattle.std.proofs.lemmas.Bool.{lt-leb, and_left, and_right}
-use Rattle.byte_lines.specs.Bytes.{Bytes, Answer}
 use Rattle.byte_lines.specs.Lines.{lines}
 use Rattle.coding.specs.Codings.{coding_number}
-use Rattle.head.specs.declared.table.Record.{Record}
 use Rattle.head.specs.BoundaryBytes.{boundary_bytes}
 use Rattle.head.specs.Fields.{fields_of}
 use Rattle.head.specs.Entities.{leaf, group, refused}
@@ -29,7 +27,7 @@ returns-in-Leaf c =
     let n = c.pack-fields.result in
     let x = leaf (coding_number c.in-Leaf.coding) c.in-Leaf.marks in
     put_together _ _ _ _ _ _ (ap (λ (k : ℕ). (1, k ∷ (coding_number c.in-Leaf.coding ∷ (c.in-Leaf.marks ∷ [])))) p.count) p.bytes p.records
-    ∙ read_opened c.args.around c.in-default.field-0 s b t x (omega (arith, c.if-buffer-lt-BUFFER.false)) (omega (arith, c.if-table-lt-TABLE.false)) c.in-default.ensures
+    ∙ read_opened c.args.around c.in_default.field-0 s b t x (omega (arith, c.if-buffer-lt-BUFFER.false)) (omega (arith, c.if-table-lt-TABLE.false)) c.in_default.ensures
     (decided c.args.around (n - 0) x fs b c.pack-fields.new.buffer t c.pack-fields.new.table (omega (arith, p.count)) p.bytes p.records c.in-Leaf.ensures)
 
 pub returns-in-Group : goal.returns-in-Group
@@ -42,7 +40,7 @@ returns-in-Group c =
     let n = c.pack-fields.result in
     let x = group (boundary_bytes c.in-Group.boundary) in
     put_together _ _ _ _ _ _ (ap (λ (k : ℕ). (2, k ∷ boundary_bytes c.in-Group.boundary)) p.count) p.bytes p.records
-    ∙ read_opened c.args.around c.in-default.field-0 s b t x (omega (arith, c.if-buffer-lt-BUFFER.false)) (omega (arith, c.if-table-lt-TABLE.false)) c.in-default.ensures
+    ∙ read_opened c.args.around c.in_default.field-0 s b t x (omega (arith, c.if-buffer-lt-BUFFER.false)) (omega (arith, c.if-table-lt-TABLE.false)) c.in_default.ensures
     (decided c.args.around (n - 0) x fs b c.pack-fields.new.buffer t c.pack-fields.new.table (omega (arith, p.count)) p.bytes p.records c.in-Group.ensures)
 
 pub returns-in-Refused : goal.returns-in-Refused
@@ -60,5 +58,5 @@ returns-in-Refused c =
     put_together (c.in-Refused.number, 0 ∷ []) (c.in-Refused.number, 0 ∷ []) _ _ _ _ refl
     (z.bytes ∙ ap (buffer_after []) p.bytes ∙ buffer_again fs b (omega (arith, c.if-buffer-lt-BUFFER.false)) lb)
     (z.records ∙ ap (table_after []) p.records ∙ table_again fs t (omega (arith, c.if-table-lt-TABLE.false)) lt)
-    ∙ read_opened c.args.around c.in-default.field-0 s b t x (omega (arith, c.if-buffer-lt-BUFFER.false)) (omega (arith, c.if-table-lt-TABLE.false)) c.in-default.ensures
+    ∙ read_opened c.args.around c.in_default.field-0 s b t x (omega (arith, c.if-buffer-lt-BUFFER.false)) (omega (arith, c.if-table-lt-TABLE.false)) c.in_default.ensures
     (decided c.args.around (n - 0) x fs b c.pack-fields.new.buffer t c.pack-fields.new.table (omega (arith, p.count)) p.bytes p.records c.in-Refused.ensures)

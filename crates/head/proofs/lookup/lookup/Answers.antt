@@ -2,13 +2,13 @@ use Rattle.std.proofs.Common.{ℕ, ◌+◌, Some, None, Option, sym, ap, ◌∙�
 use Rattle.byte_lines.specs.Strings.{named}
 use Rattle.head.proofs.Founds.{Holds, found_first, found-again, found-past, found_all}
 use Rattle.head.proofs.lookup.lookup.Goals as goal
-use Rattle.head.proofs.lookup.lookup.Goals.{then-is-named+else-is-some, else-is-named}
+use Rattle.head.proofs.lookup.lookup.Goals.{then-is_named+else-is_some, else-is_named}
 
-pub returns-then-is-some : goal.returns-then-is-some
-returns-then-is-some c =
+pub returns-then-is_some : goal.returns-then-is_some
+returns-then-is_some c =
     let word = c.args.word.now in
-    found-again word c.args.buffer.now c.args.table.now c.loop-i.i c.loop-i-test.true c.loop-i.found (sym c.if-is-some.ensures)
-    (sym (c.if-is-named.ensures ∙ ap (named word) c.part.ensures)) c.loop-i.invariant
+    found-again word c.args.buffer.now c.args.table.now c.loop-i.i c.loop-i-test.true c.loop-i.found (sym c.if-is_some.ensures)
+    (sym (c.if-is_named.ensures ∙ ap (named word) c.part.ensures)) c.loop-i.invariant
 
 pub loop-i-preserved : goal.loop-i-preserved
 loop-i-preserved c =
@@ -17,12 +17,12 @@ loop-i-preserved c =
     let table = c.args.table.now in
     let i = c.loop-i.i in
     let next : Option ℕ → Type 0 = λ o. Holds word buffer table (i + 1) o in
-    elim c.if-is-named.branch [
-      | then-is-named+else-is-some w ↦ subst next (sym w.found-is)
-          (found_first word buffer table i c.loop-i-test.true c.loop-i.found (sym w.if-is-some.ensures)
-          (sym (w.if-is-named.ensures ∙ ap (named word) c.part.ensures)) c.loop-i.invariant)
-      | else-is-named w ↦ subst next (sym w.found-is)
-          (found-past word buffer table i c.loop-i-test.true c.loop-i.found (sym (w.if-is-named.ensures ∙ ap (named word) c.part.ensures)) c.loop-i.invariant)
+    elim c.if-is_named.branch [
+      | then-is_named+else-is_some w ↦ subst next (sym w.found-is)
+          (found_first word buffer table i c.loop-i-test.true c.loop-i.found (sym w.if-is_some.ensures)
+          (sym (w.if-is_named.ensures ∙ ap (named word) c.part.ensures)) c.loop-i.invariant)
+      | else-is_named w ↦ subst next (sym w.found-is)
+          (found-past word buffer table i c.loop-i-test.true c.loop-i.found (sym (w.if-is_named.ensures ∙ ap (named word) c.part.ensures)) c.loop-i.invariant)
     ]
 
 pub returns-in-None : goal.returns-in-None

@@ -13,7 +13,7 @@ returns-then-word-i c =
     let w = c.args.word.now in
     let s = c.args.text.now in
     let i = c.loop-i.i in
-    sym (named_apart (get_or w i 0) (get_or s i 0) (drop (i + 1) w) (drop (i + 1) s) (λ e. c.if-word-i.true (e ∙ sym c.to-ascii-lowercase-small.ensures.value)))
+    sym (named_apart (get_or w i 0) (get_or s i 0) (drop (i + 1) w) (drop (i + 1) s) (λ e. c.if-word-i.true (e ∙ sym c.to_ascii_lowercase-small.ensures.value)))
     ∙ sym (named_at w s i (omega arith) (omega arith))
     ∙ c.loop-i.invariant
 
@@ -22,7 +22,7 @@ loop-i-preserved c =
     let w = c.args.word.now in
     let s = c.args.text.now in
     let i = c.loop-i.i in
-    sym (named_more (get_or w i 0) (get_or s i 0) (drop (i + 1) w) (drop (i + 1) s) (c.if-word-i.false ∙ c.to-ascii-lowercase-small.ensures.value))
+    sym (named_more (get_or w i 0) (get_or s i 0) (drop (i + 1) w) (drop (i + 1) s) (c.if-word-i.false ∙ c.to_ascii_lowercase-small.ensures.value))
     ∙ sym (named_at w s i (omega arith) (omega arith))
     ∙ c.loop-i.invariant
 

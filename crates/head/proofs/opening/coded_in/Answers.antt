@@ -1,4 +1,4 @@
-use Rattle.std.proofs.Common.{List, [], ◌∷◌, codes, sym, ap, ◌∙◌}
+use Rattle.std.proofs.Common.{[], ◌∷◌, codes, sym, ap, ◌∙◌}
 use Rattle.byte_lines.specs.Bytes.{Bytes}
 use Rattle.head.specs.Entities.{coding_of}
 use Rattle.head.specs.Fields.{values_of}
@@ -17,7 +17,7 @@ returns-in-One c =
     let vs = values_of (codes "content-transfer-encoding") (fields_in c.args.buffer.now c.args.table.now) in
     let v : Bytes = c.in-One.value.now in
     let e = c.in-One.ensures in
-    (once_one vs v e, c.coding-of.ensures ∙ sym (ap coding_of {x = vs} {y = v ∷ []} e))
+    (once_one vs v e, c.coding_of.ensures ∙ sym (ap coding_of {x = vs} {y = v ∷ []} e))
 
 pub returns-in-Many : goal.returns-in-Many
 returns-in-Many c = twice_many (values_of (codes "content-transfer-encoding") (fields_in c.args.buffer.now c.args.table.now)) c.in-Many.ensures

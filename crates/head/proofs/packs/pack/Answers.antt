@@ -7,8 +7,8 @@ use Rattle.head.proofs.Fills.{laid-front}
 use Rattle.head.proofs.Passing.{lawful}
 use Rattle.head.proofs.packs.pack.Goals as goal
 
-pub pack-fields-requires : goal.pack-fields-requires
-pack-fields-requires c =
+pub pack_fields-requires : goal.pack_fields-requires
+pack_fields-requires c =
     let l = lawful c.args.head.now c.requires.lawful.0 c.requires.lawful.1 in
     let b = length-take-le 8192 c.args.buffer.now c.requires.long in
     let t = length-take-le 64 c.args.table.now c.requires.wide in
@@ -19,8 +19,8 @@ returns c =
     let fs = fields_of (lines c.args.head.now) in
     let l = lawful c.args.head.now c.requires.lawful.0 c.requires.lawful.1 in
     record {
-      few = omega (arith, l.few, c.pack-fields.ensures.count);
-      count = c.pack-fields.ensures.count;
-      bytes = laid-front 0 8192 (packed fs) c.args.buffer.now c.pack-fields.new.out c.requires.long c.pack-fields.ensures.bytes;
-      records = laid-front no_record 64 (records 0 fs) c.args.table.now c.pack-fields.new.table c.requires.wide c.pack-fields.ensures.records;
+      few = omega (arith, l.few, c.pack_fields.ensures.count);
+      count = c.pack_fields.ensures.count;
+      bytes = laid-front 0 8192 (packed fs) c.args.buffer.now c.pack_fields.new.out c.requires.long c.pack_fields.ensures.bytes;
+      records = laid-front no_record 64 (records 0 fs) c.args.table.now c.pack_fields.new.table c.requires.wide c.pack_fields.ensures.records;
     }

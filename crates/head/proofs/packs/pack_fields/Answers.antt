@@ -10,23 +10,23 @@ use Rattle.head.proofs.packs.pack_fields.Goals as goal
 pub loop-i-init : goal.loop-i-init
 loop-i-init c = none_yet c.args.head.now c.args.out.now c.args.table.now c.requires.starts
 
-pub offset-bounds-table-n : goal.offset-bounds-table-n
-offset-bounds-table-n c = omega (arith, c.loop-i.invariant.few, c.loop-i.invariant.within, c.requires.short)
+pub offset_bounds-table-n : goal.offset_bounds-table-n
+offset_bounds-table-n c = omega (arith, c.loop-i.invariant.few, c.loop-i.invariant.within, c.requires.short)
 
 pub bounds-table-n : goal.bounds-table-n
 bounds-table-n c =
     let l = c.loop-i in
-    let f = c.pack-field-field in
+    let f = c.pack_field-field in
     let room = field_room c.args.head.now l.out f.new.out l.table l.i l.to l.n f.result.width f.result.name f.result.value l.invariant f.ensures in
     omega (arith, c.requires.wide, l.auto.table)
 
-pub overflow-add-n : goal.overflow-add-n
-overflow-add-n c = omega (arith, c.loop-i.invariant.few, c.loop-i.invariant.within, c.requires.short)
+pub overflow_add-n : goal.overflow_add-n
+overflow_add-n c = omega (arith, c.loop-i.invariant.few, c.loop-i.invariant.within, c.requires.short)
 
 pub loop-i-preserved : goal.loop-i-preserved
 loop-i-preserved c =
     let l = c.loop-i in
-    let f = c.pack-field-field in
+    let f = c.pack_field-field in
     let room = field_room c.args.head.now l.out f.new.out l.table l.i l.to l.n f.result.width f.result.name f.result.value l.invariant f.ensures in
     one_more c.args.head.now l.out f.new.out l.table l.i l.to l.n f.result.width f.result.name f.result.value l.invariant f.ensures
     (omega (arith, c.requires.wide, l.auto.table))

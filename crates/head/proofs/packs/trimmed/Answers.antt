@@ -12,16 +12,16 @@ loop-n-preserved c =
     let s = c.args.text.now in
     let n = c.loop-n.n in
     let last = take_last s n (omega arith) (omega arith) in
-    (omega arith, sym (trim_end-blank (take (n - 1) s) (get_or s (n - 1) 0) (sym c.if-is-blank.ensures)) ∙ ap trim_end (sym last) ∙ c.loop-n.invariant.1)
+    (omega arith, sym (trim_end-blank (take (n - 1) s) (get_or s (n - 1) 0) (sym c.if-is_blank.ensures)) ∙ ap trim_end (sym last) ∙ c.loop-n.invariant.1)
 
-pub returns-else-is-blank : goal.returns-else-is-blank
-returns-else-is-blank c =
+pub returns-else-is_blank : goal.returns-else-is_blank
+returns-else-is_blank c =
     let s = c.args.text.now in
     let n = c.loop-n.n in
     let last = take_last s n (omega arith) (omega arith) in
     record {
       within = omega arith;
-      bytes = last ∙ sym (trim_end_other (take (n - 1) s) (get_or s (n - 1) 0) (sym c.if-is-blank.ensures)) ∙ ap trim_end (sym last) ∙ c.loop-n.invariant.1;
+      bytes = last ∙ sym (trim_end_other (take (n - 1) s) (get_or s (n - 1) 0) (sym c.if-is_blank.ensures)) ∙ ap trim_end (sym last) ∙ c.loop-n.invariant.1;
     }
 
 pub returns-after-loop-n : goal.returns-after-loop-n

@@ -1,17 +1,15 @@
-use Rattle.std.proofs.Common.{◌≡◌, ◌-◌, ◌≤◌, length, take, drop, sym, ap, ◌∙◌, arith, rules}
-use Rattle.byte_lines.specs.Bytes.{Bytes}
-use Rattle.input.specs.Inputs.{meaning, shown, unseen}
-use Rattle.input.proofs.Windows.{shown-first}
+use Rattle.std.proofs.Common.{length, sym, ap, ◌∙◌, arith}
+use Rattle.input.specs.Inputs.{meaning, unseen}
 use Rattle.levels.specs.Opened.{groups}
 use Rattle.spans.proofs.Windowed.{grows, near_decides}
 use Rattle.spans.proofs.heads.fit_at.Goals as goal
 
-pub slice-bounds-fit-view-count : goal.slice-bounds-fit-view-count
-slice-bounds-fit-view-count g c =
+pub slice_bounds-fit_view-count : goal.slice_bounds-fit_view-count
+slice_bounds-fit_view-count g c =
     omega (arith, grows g.S.Source.meaning c.args.input.now c.fill.new.self c.fill.ensures.keeps, ap length c.view-view.ensures.shows, c.requires.within)
 
-pub slice-bounds-fit-view-start : goal.slice-bounds-fit-view-start
-slice-bounds-fit-view-start g c = slice-bounds-fit-view-count g c
+pub slice_bounds-fit_view-start : goal.slice_bounds-fit_view-start
+slice_bounds-fit_view-start g c = slice_bounds-fit_view-count g c
 
 pub returns : goal.returns
 returns g c =
@@ -25,9 +23,9 @@ returns g c =
     record {
       keeps = c.fill.ensures.keeps;
       is =
-          near_decides gs v (unseen source j) (meaning source i).left c.args.at c.fit-view.result c.fit-view.ensures.is
+          near_decides gs v (unseen source j) (meaning source i).left c.args.at c.fit_view.result c.fit_view.ensures.is
           (sym same ∙ c.view-view.ensures.front)
           (omega (arith, grows source i j c.fill.ensures.keeps, ap length shows, c.requires.within))
           (λ short. sym same ∙ (c.fill.ensures.shows (omega (arith, ap length shows, c.requires.few))).all ∙ sym shows);
-      depth = c.fit-view.ensures.within;
+      depth = c.fit_view.ensures.within;
     }

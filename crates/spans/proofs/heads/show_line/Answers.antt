@@ -1,6 +1,6 @@
-use Rattle.std.proofs.Common.{◌≡◌, length, is_some, sym, ap, ◌∙◌, arith, rules}
-use Rattle.input.specs.Inputs.{meaning, shown, unseen}
-use Rattle.input.proofs.Windows.{kept_same, kept-twice, shown-first}
+use Rattle.std.proofs.Common.{length, is_some, sym, ap, ◌∙◌, arith}
+use Rattle.input.specs.Inputs.{meaning}
+use Rattle.input.proofs.Windows.{kept_same, kept-twice}
 use Rattle.spans.proofs.Windowed.{grows, nearer}
 use Rattle.spans.proofs.heads.show_line.Goals as goal
 
@@ -13,7 +13,7 @@ loop-input-smaller g c =
     let j = c.fill.new.self in
     let len = ap length c.view-view.ensures.shows in
     nearer g.S.Source.meaning i j (meaning g.S.Source.meaning j).ending c.fill.ensures.keeps
-    (ap is_some (sym c.end.ensures.is) ∙ sym c.is-some.ensures ∙ c.if-is-some.false) (omega (arith, len))
+    (ap is_some (sym c.end.ensures.is) ∙ sym c.is_some.ensures ∙ c.if-is_some.false) (omega (arith, len))
     (λ h. c.fill.ensures.shows (omega (arith, len)))
 
 pub loop-input-preserved : goal.loop-input-preserved

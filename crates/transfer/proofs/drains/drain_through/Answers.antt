@@ -1,8 +1,6 @@
-use Rattle.std.proofs.Common.{◌≡◌, ◌-◌, ◌<◌, ◌≤◌, length, take, sym, ap, ◌∙◌, arith, rules}
-use Rattle.source.specs.declared.ends.End.{End}
-use Rattle.source.specs.Meanings.{ended}
-use Rattle.source.proofs.Pulling.{given, told, front_kept}
-use Rattle.transfer.proofs.Steps.{at_full, at_end_lem, took, fewer}
+use Rattle.std.proofs.Common.{◌≡◌, ◌-◌, take, sym, ◌∙◌, arith, rules}
+use Rattle.source.proofs.Pulling.{given}
+use Rattle.transfer.proofs.Steps.{at_full, took, fewer}
 use Rattle.transfer.proofs.drains.drain_through.Goals as goal
 
 pub returns-then-room-eq0 : goal.returns-then-room-eq0

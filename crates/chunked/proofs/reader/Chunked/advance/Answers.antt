@@ -20,8 +20,8 @@ returns-in-Gave g c =
     let m' = g.S.Source.meaning c.pull.new.self in
     let f = first_byte m c.in-Gave.field-0 m' c.pull.new.buffer (given m (0 ∷ []) c.in-Gave.field-0 m' c.pull.new.buffer c.in-Gave.ensures) in
     record {
-      same = byte_same s.next c.step-at-self.result c.args.place s.taken _ m m' c.requires.here (omega arith) (c.requires.overhead (omega arith)) f c.step-at-self.ensures;
-      nearer = byte_nearer s.next c.step-at-self.result c.args.place _ m m' c.requires.here f;
+      same = byte_same s.next c.step_at-self.result c.args.place s.taken _ m m' c.requires.here (omega arith) (c.requires.overhead (omega arith)) f c.step_at-self.ensures;
+      nearer = byte_nearer s.next c.step_at-self.result c.args.place _ m m' c.requires.here f;
     }
 
 pub returns-in-Ended : goal.returns-in-Ended

@@ -18,7 +18,7 @@ returns-in-Clean c =
     let w = waiting c.close.new.ready in
     let found = fault 51 5 c.args.at in
     finished (sextets_of c.args.self.now.held) w true c.args.at c.args.end known.over known.given
-    ∙ ap (λ (x : End). gives w (yields x found)) c.in-Clean.is ∙ ap (gives w) (sym c.left-over.ensures)
+    ∙ ap (λ (x : End). gives w (yields x found)) c.in-Clean.is ∙ ap (gives w) (sym c.left_over.ensures)
 
 pub returns-in-Faulty : goal.returns-in-Faulty
 returns-in-Faulty c =

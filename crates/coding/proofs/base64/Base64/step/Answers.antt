@@ -11,7 +11,7 @@ pub returns-then-b-ne61 : goal.returns-then-b-ne61
 returns-then-b-ne61 c =
     let none = ap length c.requires.empty in
     record {
-      decoded = λ q e. step_ignored (sextets_of c.args.self.now.held) (waiting c.args.ready.now) c.args.at c.args.b q e c.requires.empty c.if-b-ne61.true (sym c.in-default.ensures);
+      decoded = λ q e. step_ignored (sextets_of c.args.self.now.held) (waiting c.args.ready.now) c.args.at c.args.b q e c.requires.empty c.if-b-ne61.true (sym c.in_default.ensures);
       fewer = omega arith;
     }
 
@@ -22,7 +22,7 @@ returns-then-close c =
     let vs = sextets_of c.args.self.now.held in
     let few = octets-fewer vs w known.given in
     record {
-      decoded = λ q e. step_equals vs w true c.args.at c.args.b q e c.if-b-ne61.false known.over known.given ∙ ap (λ (x : End). prefixed w (gives [] x)) (sym c.left-over.ensures);
+      decoded = λ q e. step_equals vs w true c.args.at c.args.b q e c.if-b-ne61.false known.over known.given ∙ ap (λ (x : End). prefixed w (gives [] x)) (sym c.left_over.ensures);
       fewer = omega arith;
     }
 
@@ -74,6 +74,6 @@ returns-in-Three c =
     record {
       decoded = λ q e.
           step-group (sextets_of c.args.self.now.held) c.in-Three.x c.in-Three.y c.in-Three.z c.args.at c.args.b c.in-Some.v q e
-          held (sym c.in-Some.ensures) three c.bytes-of-first.ensures;
+          held (sym c.in-Some.ensures) three c.bytes_of-first.ensures;
       fewer = omega (arith, ap length held, ap length three);
     }

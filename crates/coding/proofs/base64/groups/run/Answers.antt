@@ -7,4 +7,4 @@ loop-taken-preserved-in-Some c =
     ran-more c.in-Some.x c.in-Some.y c.in-Some.z c.loop-taken.invariant (omega arith) (omega arith) (omega arith) c.in-Some.ensures
 
 pub loop-taken-preserved : goal.loop-taken-preserved
-loop-taken-preserved c = ran-past c.loop-taken.invariant (omega arith) (c.is-ignored.ensures c.if-not-is-ignored.false)
+loop-taken-preserved c = ran-past c.loop-taken.invariant (omega arith) (c.is_ignored.ensures c.if-not-is_ignored.false)

@@ -1,4 +1,4 @@
-use Rattle.std.proofs.Common.{◌≡◌, ℕ, ◌+◌, ◌-◌, ◌≤◌, [], ◌++◌, length, take, drop, sym, refl, ap, ◌∙◌, arith}
+use Rattle.std.proofs.Common.{◌≡◌, ℕ, ◌+◌, ◌-◌, [], ◌++◌, take, drop, sym, ap, ◌∙◌, arith}
 use Rattle.source.specs.declared.ends.End.{End}
 use Rattle.source.specs.declared.ends.End.TheVariants.{Clean}
 use Rattle.byte_lines.specs.Bytes.{Bytes}
@@ -10,15 +10,15 @@ use Rattle.coding.proofs.Backlogs.{gave-fewer, ran-fewer, stepped-fewer}
 use Rattle.coding.proofs.Feeding.{none-ready, some_ready, gave-waiting, ran, none-given, stepped}
 use Rattle.coding.proofs.decoder.Decoder.feed.Goals as goal
 
-pub returns-then-is-ready : goal.returns-then-is-ready
+pub returns-then-is_ready : goal.returns-then-is_ready
 unfolding backlog
-returns-then-is-ready c =
+returns-then-is_ready c =
     let s = c.args.self.now in
     let e = c.give-given.ensures in
     record {
       feeds =
           gave-waiting (waiting s.ready) c.args.out.now c.give-given.new.out c.args.raw.now (later_by s.mode s.at) s.at c.give-given.result _
-          (some_ready c.is-ready.result (waiting s.ready) c.is-ready.ensures c.if-is-ready.true) e.count e.rest e.filled;
+          (some_ready c.is_ready.result (waiting s.ready) c.is_ready.ensures c.if-is_ready.true) e.count e.rest e.filled;
       fewer = gave-fewer (waiting s.ready) _ c.give-given.result _ (backlog_by s.mode) e.count e.rest;
     }
 
@@ -31,13 +31,13 @@ returns-then-fed-gt0 c =
     record {
       feeds =
           ran (waiting s.ready) c.args.out.now c.run-fed.new.out c.args.raw.now (later_by s.mode s.at) (later_by s.mode (s.at + c.run-fed.result.taken)) s.at most
-          c.run-fed.result.taken c.run-fed.result.given (none-ready c.is-ready.result (waiting s.ready) c.is-ready.ensures c.if-is-ready.false)
+          c.run-fed.result.taken c.run-fed.result.given (none-ready c.is_ready.result (waiting s.ready) c.is_ready.ensures c.if-is_ready.false)
           (omega arith) e.took e.gave c.if-fed-gt0.true e.kept (e.whole s.at);
       fewer = ran-fewer (waiting s.ready) (backlog_by s.mode) c.run-fed.result.taken c.run-fed.result.given e.fewer;
     }
 
 pub reset-requires : goal.reset-requires
-reset-requires c = none-ready c.is-ready.result (waiting c.args.self.now.ready) c.is-ready.ensures c.if-is-ready.false
+reset-requires c = none-ready c.is_ready.result (waiting c.args.self.now.ready) c.is_ready.ensures c.if-is_ready.false
 
 pub returns : goal.returns
 unfolding backlog
@@ -62,6 +62,6 @@ returns c =
     record {
       feeds =
           stepped (waiting s.ready) (waiting c.step-self.new.ready) out out' raw later (later_by c.step-self.result (s.at + 1)) s.at
-          (none-ready c.is-ready.result (waiting s.ready) c.is-ready.ensures c.if-is-ready.false) (omega arith) same c.step-self.ensures.whole;
+          (none-ready c.is_ready.result (waiting s.ready) c.is_ready.ensures c.if-is_ready.false) (omega arith) same c.step-self.ensures.whole;
       fewer = stepped-fewer (waiting s.ready) (waiting c.step-self.new.ready) (backlog_by s.mode) (backlog_by c.step-self.result) c.step-self.ensures.fewer;
     }

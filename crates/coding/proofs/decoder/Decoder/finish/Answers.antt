@@ -1,4 +1,4 @@
-use Rattle.std.proofs.Common.{◌≡◌, sym, ap, ◌∙◌, append-nil}
+use Rattle.std.proofs.Common.{sym, ap, ◌∙◌, append-nil}
 use Rattle.byte_lines.specs.Bytes.{Bytes}
 use Rattle.coding.specs.Decoding.{Decoded, gives}
 use Rattle.coding.specs.Decoders.{backlog}
@@ -8,7 +8,7 @@ use Rattle.coding.proofs.Feeding.{none-ready}
 use Rattle.coding.proofs.decoder.Decoder.finish.Goals as goal
 
 pub reset-requires : goal.reset-requires
-reset-requires c = none-ready c.is-ready.result (waiting c.args.self.now.ready) c.is-ready.ensures c.if-is-ready.false
+reset-requires c = none-ready c.is_ready.result (waiting c.args.self.now.ready) c.is_ready.ensures c.if-is_ready.false
 
 pub returns : goal.returns
 unfolding backlog
@@ -18,7 +18,7 @@ returns c =
     let w' = waiting c.finish-end.new.ready in
     record {
       finishes = (
-        none-ready c.is-ready.result w c.is-ready.ensures c.if-is-ready.false,
+        none-ready c.is_ready.result w c.is_ready.ensures c.if-is_ready.false,
         (λ raw e. ap (λ (t : Bytes). gives t c.finish-end.result) (append-nil w') ∙ sym c.finish-end.ensures),
       );
       releases = ap (λ (d : Decoded). d.bytes) (sym c.finish-end.ensures);

@@ -36,7 +36,7 @@ returns-in-Quoted c =
     let e = c.run-in-Quoted.ensures in
     let given = take r.given c.run-in-Quoted.new.out in
     let held = held_bytes c.in-Quoted.decoder in
-    let none : held ≡ [] = none-waits true held c.if-is-between-2.ensures refl in
+    let none : held ≡ [] = none-waits true held c.if-is_between-2.ensures refl in
     record {
       took = e.took;
       gave = e.gave;

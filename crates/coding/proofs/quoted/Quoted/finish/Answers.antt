@@ -7,8 +7,8 @@ use Rattle.coding.proofs.QuotedShapes.{shape_of}
 use Rattle.coding.proofs.QuotedSteps.{ended, left-blanks, left-others}
 use Rattle.coding.proofs.quoted.Quoted.finish.Goals as goal
 
-pub returns-in-default : goal.returns-in-default
-returns-in-default c = λ at e behind.
+pub returns-in_default : goal.returns-in_default
+returns-in_default c = λ at e behind.
     let s = c.args.self.now in
     let h = held_bytes s in
     let k : (soft : Bool) × (s.kind ≡ Blanks soft) = search rules in

@@ -6,7 +6,7 @@ use Rattle.coding.proofs.QuotedShapes.{shape_parts, shape_length, held-length}
 use Rattle.coding.proofs.quoted.Quoted.hold.Goals as goal
 
 -- room for one more
-room : (c : goal.After-way-told·1) → c.args.self.now.len < 78
+room : (c : goal.After-way_told-1) → c.args.self.now.len < 78
 room c =
     let s = c.args.self.now in
     let h = held_bytes s in
@@ -19,11 +19,15 @@ room c =
 pub bounds-self-self : goal.bounds-self-self
 bounds-self-self c = room c
 
-pub invariant-of-self : goal.invariant-of-self
-invariant-of-self c =
+pub invariant_of-self : goal.invariant_of-self
+invariant_of-self c =
     let s = c.args.self.now in
     let r = room c in
-    (length-set s.held s.len c.args.b ∙ s.whole, (omega arith, (ap (shaped c.args.kind) (take_more_set s.held s.len c.args.b (omega arith)) ∙ c.requires, tt)))
+    record {
+      whole = length-set s.held s.len c.args.b ∙ s.whole;
+      within = omega arith;
+      shape = ap (shaped c.args.kind) (take_more_set s.held s.len c.args.b (omega arith)) ∙ c.requires;
+    }
 
 pub returns : goal.returns
 returns c =

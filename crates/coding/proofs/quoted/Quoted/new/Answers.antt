@@ -3,5 +3,5 @@ use Rattle.std.proofs.Common.{false, [], refl, arith}
 use Rattle.coding.proofs.QuotedShapes.{shape_whole, shape_none}
 use Rattle.coding.proofs.quoted.Quoted.new.Goals as goal
 
-pub invariant-of-result : goal.invariant-of-result
-invariant-of-result c = (refl, (omega arith, (shape_whole (Blanks false) [] shape_none, tt)))
+pub invariant_of-result : goal.invariant_of-result
+invariant_of-result c = record { whole = refl; within = omega arith; shape = shape_whole (Blanks false) [] shape_none }

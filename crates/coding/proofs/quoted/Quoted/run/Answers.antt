@@ -6,7 +6,7 @@ pub loop-i-init : goal.loop-i-init
 loop-i-init c = on_start c.args.raw.now c.loop-taken.out c.min-most.result c.loop-taken.taken c.loop-taken.given (c.min-most.result - c.loop-taken.taken)
 
 pub loop-i-preserved : goal.loop-i-preserved
-loop-i-preserved c = on_more c.loop-i.invariant (omega arith) (omega arith) (omega arith) (omega arith) (c.is-itself.ensures c.if-is-itself.true)
+loop-i-preserved c = on_more c.loop-i.invariant (omega arith) (omega arith) (omega arith) (omega arith) (c.is_itself.ensures c.if-is_itself.true)
 
 pub loop-taken-preserved-in-Byte : goal.loop-taken-preserved-in-Byte
 loop-taken-preserved-in-Byte c = more_byte (c.loop-i.invariant.on c.args.out.now c.loop-taken.invariant) (omega arith) (omega arith) (omega arith) c.in-Byte.b c.in-Byte.ensures

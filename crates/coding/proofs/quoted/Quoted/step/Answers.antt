@@ -33,8 +33,8 @@ freed s at b behind w o n e l =
 
 -- an '=' and two digits ---------------------------------------------------------------------------
 
-pub escaped-byte-requires : goal.escaped-byte-requires
-escaped-byte-requires c =
+pub escaped_byte-requires : goal.escaped_byte-requires
+escaped_byte-requires c =
     let s = c.args.self.now in
     let b = c.args.b in
     let e : s.kind ≡ Digit = search rules in
@@ -49,10 +49,10 @@ returns-in-Digit-48-to-57 c =
     let e : s.kind ≡ Digit = search rules in
     let k = shape_of s Digit e in
     let x : IsHex b = search rules in
-    let v = c.escaped-byte.result in
-    let byte = ap (λ (n : ℕ). byte_of (hex n) (hex b)) (sym (digit_at s k)) ∙ c.escaped-byte.ensures in
+    let v = c.escaped_byte.result in
+    let byte = ap (λ (n : ℕ). byte_of (hex n) (hex b)) (sym (digit_at s k)) ∙ c.escaped_byte.ensures in
     let p =
-    step_as (step-escape (held_bytes s) c.args.at b c.requires.behind k v x byte) (c.push.ensures.waits ∙ ap (λ (l : Bytes). l ++ (v ∷ [])) c.requires.empty) c.drop-held.ensures in
+    step_as (step-escape (held_bytes s) c.args.at b c.requires.behind k v x byte) (c.push.ensures.waits ∙ ap (λ (l : Bytes). l ++ (v ∷ [])) c.requires.empty) c.drop_held.ensures in
     record { decoded = p.decoded; behind = p.behind; fewer = p.fewer }
 
 pub hold-requires : goal.hold-requires
@@ -71,7 +71,7 @@ returns-in-Cr-true-eq10 c =
     let s = c.args.self.now in
     let e : s.kind ≡ Cr true = search rules in
     let t : c.args.b ≡ 10 = search rules in
-    let p = step_as (step-break (held_bytes s) c.args.at c.args.b c.requires.behind true (shape_of s (Cr true) e) t) c.requires.empty c.drop-held-in-Cr-true-eq10.ensures in
+    let p = step_as (step-break (held_bytes s) c.args.at c.args.b c.requires.behind true (shape_of s (Cr true) e) t) c.requires.empty c.drop_held-in-Cr-true-eq10.ensures in
     record { decoded = p.decoded; behind = p.behind; fewer = p.fewer }
 
 pub returns-in-Cr-false-eq10 : goal.returns-in-Cr-false-eq10
@@ -80,7 +80,7 @@ returns-in-Cr-false-eq10 c =
     let e : s.kind ≡ Cr false = search rules in
     let t : c.args.b ≡ 10 = search rules in
     let out : waiting c.push-in-Cr-false-eq10-2.new.self ≡ crlf = rw (c.push-in-Cr-false-eq10-2.ensures.waits, c.push-in-Cr-false-eq10.ensures.waits, c.requires.empty) in
-    let p = step_as (step-break (held_bytes s) c.args.at c.args.b c.requires.behind false (shape_of s (Cr false) e) t) out c.drop-held-in-Cr-false-eq10.ensures in
+    let p = step_as (step-break (held_bytes s) c.args.at c.args.b c.requires.behind false (shape_of s (Cr false) e) t) out c.drop_held-in-Cr-false-eq10.ensures in
     record { decoded = p.decoded; behind = p.behind; fewer = p.fewer }
 
 -- blanks, and a CR behind them ----------------------------------------------------------------------
@@ -99,8 +99,8 @@ returns-in-Blanks-eq32 c =
       | else-soft w ↦ ap waiting w.ready-is ∙ c.requires.empty ∙ ap equals_if (sym w.if-soft.false ∙ is)
     ] in
     let k = shape_of s (Blanks soft) c.in-Blanks-eq32.is-0 in
-    let p = step_as (step-fault (held_bytes s) c.args.at b c.requires.behind soft k size (is_blank b t)) given c.drop-held-in-Blanks-eq32.ensures in
-    record { decoded = λ q e. rw c.too-many-blanks.ensures (p.decoded q e); behind = p.behind; fewer = rw c.too-many-blanks.ensures p.fewer }
+    let p = step_as (step-fault (held_bytes s) c.args.at b c.requires.behind soft k size (is_blank b t)) given c.drop_held-in-Blanks-eq32.ensures in
+    record { decoded = λ q e. rw c.too_many_blanks.ensures (p.decoded q e); behind = p.behind; fewer = rw c.too_many_blanks.ensures p.fewer }
 
 pub hold-requires-in-Blanks-eq32-2 : goal.hold-requires-in-Blanks-eq32-2
 hold-requires-in-Blanks-eq32-2 c =
@@ -138,53 +138,53 @@ returns-in-Blanks-eq13 c =
 
 -- bytes that settle what is held ----------------------------------------------------------------------
 
-pub hold-requires-in-default-eq61 : goal.hold-requires-in-default-eq61
-hold-requires-in-default-eq61 c =
+pub hold-requires-in_default-eq61 : goal.hold-requires-in_default-eq61
+hold-requires-in_default-eq61 c =
     let t : c.args.b ≡ 61 = search rules in
-    alone (Blanks true) c.args.b c.release-in-default-eq61.ensures.none (rw t shape_equals)
+    alone (Blanks true) c.args.b c.release-in_default-eq61.ensures.none (rw t shape_equals)
 
-pub returns-in-default-eq61 : goal.returns-in-default-eq61
-returns-in-default-eq61 c =
+pub returns-in_default-eq61 : goal.returns-in_default-eq61
+returns-in_default-eq61 c =
     let s = c.args.self.now in
     let loose : Loose s.kind s.len c.args.b = search rules in
-    let r = c.release-in-default-eq61.ensures in
-    let p = freed s c.args.at c.args.b c.requires.behind c.requires.empty r.given r.none c.hold-in-default-eq61.ensures loose in
+    let r = c.release-in_default-eq61.ensures in
+    let p = freed s c.args.at c.args.b c.requires.behind c.requires.empty r.given r.none c.hold-in_default-eq61.ensures loose in
     record { decoded = p.decoded; behind = p.behind; fewer = p.fewer }
 
-pub hold-requires-in-default-eq32 : goal.hold-requires-in-default-eq32
-hold-requires-in-default-eq32 c =
+pub hold-requires-in_default-eq32 : goal.hold-requires-in_default-eq32
+hold-requires-in_default-eq32 c =
     let b = c.args.b in
     let t : (b ≡ 32) ⊎ (b ≡ 9) = search rules in
-    alone (Blanks false) b c.release-in-default-eq32.ensures.none (shape_blank b (is_blank b t))
+    alone (Blanks false) b c.release-in_default-eq32.ensures.none (shape_blank b (is_blank b t))
 
-pub returns-in-default-eq32 : goal.returns-in-default-eq32
-returns-in-default-eq32 c =
+pub returns-in_default-eq32 : goal.returns-in_default-eq32
+returns-in_default-eq32 c =
     let s = c.args.self.now in
     let loose : Loose s.kind s.len c.args.b = search rules in
-    let r = c.release-in-default-eq32.ensures in
-    let p = freed s c.args.at c.args.b c.requires.behind c.requires.empty r.given r.none c.hold-in-default-eq32.ensures loose in
+    let r = c.release-in_default-eq32.ensures in
+    let p = freed s c.args.at c.args.b c.requires.behind c.requires.empty r.given r.none c.hold-in_default-eq32.ensures loose in
     record { decoded = p.decoded; behind = p.behind; fewer = p.fewer }
 
-pub hold-requires-in-default-eq13 : goal.hold-requires-in-default-eq13
-hold-requires-in-default-eq13 c =
+pub hold-requires-in_default-eq13 : goal.hold-requires-in_default-eq13
+hold-requires-in_default-eq13 c =
     let t : c.args.b ≡ 13 = search rules in
     alone (Cr false) c.args.b c.release.ensures.none (rw t shape_cr)
 
-pub returns-in-default-eq13 : goal.returns-in-default-eq13
-returns-in-default-eq13 c =
+pub returns-in_default-eq13 : goal.returns-in_default-eq13
+returns-in_default-eq13 c =
     let s = c.args.self.now in
     let loose : Loose s.kind s.len c.args.b = search rules in
     let r = c.release.ensures in
-    let p = freed s c.args.at c.args.b c.requires.behind c.requires.empty r.given r.none c.hold-in-default-eq13.ensures loose in
+    let p = freed s c.args.at c.args.b c.requires.behind c.requires.empty r.given r.none c.hold-in_default-eq13.ensures loose in
     record { decoded = p.decoded; behind = p.behind; fewer = p.fewer }
 
-pub returns-in-default : goal.returns-in-default
-returns-in-default c =
+pub returns-in_default : goal.returns-in_default
+returns-in_default c =
     let s = c.args.self.now in
     let b = c.args.b in
     let loose : Loose s.kind s.len b = search rules in
     let mere : Mere b = search rules in
-    let r = c.release-in-default.ensures in
-    let out = c.push-in-default.ensures.waits ∙ ap (λ (l : Bytes). l ++ (b ∷ [])) (r.given ∙ ap (λ (l : Bytes). l ++ held_bytes s) c.requires.empty) in
+    let r = c.release-in_default.ensures in
+    let out = c.push-in_default.ensures.waits ∙ ap (λ (l : Bytes). l ++ (b ∷ [])) (r.given ∙ ap (λ (l : Bytes). l ++ held_bytes s) c.requires.empty) in
     let p = step_as (step-literal (held_bytes s) c.args.at b c.requires.behind s.kind (shape_of s s.kind refl) (rw (held-length s) loose) mere) out r.none in
     record { decoded = p.decoded; behind = p.behind; fewer = p.fewer }

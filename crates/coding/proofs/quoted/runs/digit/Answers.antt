@@ -2,9 +2,9 @@ use Rattle.std.proofs.Common.{get_or, arith}
 use Rattle.coding.proofs.QuotedTokens.{digit_table, digit-entry, digit_is}
 use Rattle.coding.proofs.quoted.runs.digit.Goals as goal
 
-pub overflow-sub-result : goal.overflow-sub-result
+pub overflow_sub-result : goal.overflow_sub-result
 unfolding digit_table
-overflow-sub-result c =
+overflow_sub-result c =
     let d = digit_is c.args.b (get_or digit_table c.args.b 0) (digit-entry c.args.b (omega arith)) c.if-d-lt80.true in
     d.0
 

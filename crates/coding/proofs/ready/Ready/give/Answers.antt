@@ -1,4 +1,4 @@
-use Rattle.std.proofs.Common.{◌≡◌, ℕ, ◌-◌, ◌≤◌, ◌++◌, length, take, drop, sym, refl, ap, ◌∙◌, arith}
+use Rattle.std.proofs.Common.{◌≡◌, ℕ, ◌-◌, ◌++◌, drop, ap, ◌∙◌, arith}
 use Rattle.byte_lines.specs.Bytes.{Bytes}
 use Rattle.coding.proofs.Windows.{length-window, window-drop, window-take}
 use Rattle.coding.proofs.ready.Ready.give.Goals as goal
@@ -13,6 +13,6 @@ returns c =
       count = omega arith;
       rest = window-drop s.bytes s.from s.to n (omega arith);
       filled =
-          ap (λ (k : ℕ). c.copy-from-slice.new.self ++ drop k c.args.out.now) z
-          ∙ ap (λ (t : Bytes). t ++ drop n c.args.out.now) (c.copy-from-slice.ensures.after ∙ window-take s.bytes s.from s.to n (omega arith));
+          ap (λ (k : ℕ). c.copy_from_slice.new.self ++ drop k c.args.out.now) z
+          ∙ ap (λ (t : Bytes). t ++ drop n c.args.out.now) (c.copy_from_slice.ensures.after ∙ window-take s.bytes s.from s.to n (omega arith));
     }

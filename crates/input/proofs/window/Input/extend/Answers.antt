@@ -14,8 +14,8 @@ free w to k = take (to + k - to) (drop to w)
 length-free : (w : Bytes) (to k : ℕ) → to + k ≤ length w → length (free w to k) ≡ k
 length-free w to k h = length-take (to + k - to) (drop to w) ∙ simp length-drop (omega arith)
 
-pub invariant-of-self : goal.invariant-of-self
-invariant-of-self g c =
+pub invariant_of-self : goal.invariant_of-self
+invariant_of-self g c =
     let i = c.args.self.now in
     let k = c.min-room.result in
     let m = g.S.Source.meaning i.source in
@@ -24,13 +24,13 @@ invariant-of-self g c =
     let p = given m (free i.window i.to k) c.in-Gave.n m' b c.in-Gave.ensures in
     let l = length-free i.window i.to k (omega arith) in
     let fits : c.in-Gave.n ≤ k = omega (arith, p.fits) in
-    (same_len_mid i.to (i.to + k - i.to) i.window b c.pull.auto.buffer ∙ i.whole, (omega arith, (omega arith, (omega arith, tt))))
+    record { whole = same_len_mid i.to (i.to + k - i.to) i.window b c.pull.auto.buffer ∙ i.whole; ordered = omega arith; within = omega arith; limited = omega arith }
 
-pub invariant-of-self-in-Ended : goal.invariant-of-self-in-Ended
-invariant-of-self-in-Ended g c =
+pub invariant_of-self-in-Ended : goal.invariant_of-self-in-Ended
+invariant_of-self-in-Ended g c =
     let i = c.args.self.now in
     let k = c.min-room.result in
-    (same_len_mid i.to (i.to + k - i.to) i.window c.pull.new.buffer c.pull.auto.buffer ∙ i.whole, (omega arith, (omega arith, (omega arith, tt))))
+    record { whole = same_len_mid i.to (i.to + k - i.to) i.window c.pull.new.buffer c.pull.auto.buffer ∙ i.whole; ordered = omega arith; within = omega arith; limited = omega arith }
 
 pub returns-in-Gave : goal.returns-in-Gave
 unfolding meaning shown

@@ -11,7 +11,7 @@ pub returns : goal.returns
 unfolding meaning shown
 returns g c =
     let i = c.args.self.now in
-    let p = shown-moved i.window c.copy-within.new.self i.from i.to (omega arith) (omega arith) c.copy-within.ensures.after in
+    let p = shown-moved i.window c.copy_within.new.self i.from i.to (omega arith) (omega arith) c.copy_within.ensures.after in
     record {
       keeps = record { means = ap (λ (v : Bytes). standing v i.at (g.S.Source.meaning i.source) i.end) p; shows = begins_same (shown i) p };
       room = omega arith;

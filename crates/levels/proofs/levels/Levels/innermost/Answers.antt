@@ -1,4 +1,4 @@
-use Rattle.std.proofs.Common.{◌≡◌, ℕ, sym, ap, arith}
+use Rattle.std.proofs.Common.{ℕ, sym, ap, arith}
 use Rattle.message.specs.Groups.{innermost}
 use Rattle.levels.specs.Opened.{groups, stack}
 use Rattle.levels.proofs.Stacks.{stack_top}

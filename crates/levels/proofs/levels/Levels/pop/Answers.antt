@@ -1,4 +1,4 @@
-use Rattle.std.proofs.Common.{◌≡◌, ℕ, ◌-◌, None, sym, ap, ◌∙◌, arith}
+use Rattle.std.proofs.Common.{ℕ, None, sym, ap, ◌∙◌, arith}
 use Rattle.levels.specs.Opened.{groups, stack, popped}
 use Rattle.levels.proofs.Stacks.{stack_top}
 use Rattle.levels.proofs.levels.Levels.pop.Goals as goal

@@ -1,4 +1,4 @@
-use Rattle.std.proofs.Common.{◌≡◌, true, List, sym, ap, ◌∙◌, arith}
+use Rattle.std.proofs.Common.{true, List, sym, ap, ◌∙◌, arith}
 use Rattle.message.specs.Groups.{Group}
 use Rattle.levels.specs.Opened.{groups}
 use Rattle.levels.proofs.Stacks.{count_is, stack-more, pushed_room, pushed_full}

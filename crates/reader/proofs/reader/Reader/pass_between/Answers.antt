@@ -22,7 +22,7 @@ returns g c =
     let source = g.S.Source.meaning in
     let r = c.args.self.now in
     let a = r.scan in
-    let b = c.next-line.new.self in
+    let b = c.next_line.new.self in
     let n = r.entities in
     let l = c.in-Some.field-0 in
     let h = c.in-Some.ensures in
@@ -39,29 +39,29 @@ returns g c =
       passed = tt;
     }
 
-pub returns-in-default : goal.returns-in-default
+pub returns-in_default : goal.returns-in_default
 unfolding meaning
-returns-in-default g c =
+returns-in_default g c =
     let source = g.S.Source.meaning in
     let r = c.args.self.now in
     let a = r.scan in
-    let b = c.next-line.new.self in
+    let b = c.next_line.new.self in
     let n = r.entities in
-    let h = c.in-default.ensures in
+    let h = c.in_default.ensures in
     let i = input_meaning source a.input in
     let i' = input_meaning source b.input in
     let gs : List Group = groups a.levels in
     let gs' : List Group = groups b.levels in
     let at : c.offset-at.result ≡ i'.offset = c.offset-at.ensures in
-    let met = c.end-in-end.ensures ∙ end_met source b.input gs' c.end.result c.depth.result c.offset-at.result c.end.ensures.means h.told
+    let met = c.end_in-end.ensures ∙ end_met source b.input gs' c.end.result c.depth.result c.offset-at.result c.end.ensures.means h.told
     (c.depth.ensures ∙ ap (λ (x : Levels). length (groups x)) c.levels.ensures) in
-    let was : ahead_by r.stage gs n i (stop source a) ≡ ahead_by (Over c.last-entry.result) gs' n i' (stop source b) =
+    let was : ahead_by r.stage gs n i (stop source a) ≡ ahead_by (Over c.last_entry.result) gs' n i' (stop source b) =
     ap (λ (st : Stage). ahead_by st gs n i (stop source a)) c.requires
     ∙ ap (λ (s : Stop). row i.ending gs n passing s.from s.lines) h.here
     ∙ ap (λ (x : End). row x gs n passing i'.offset []) (sym h.onward.ends)
     ∙ ap (λ (x : Levels). row i'.ending (groups x) n passing i'.offset []) (sym h.onward.inside)
     ∙ ap (λ (x : ℕ). row i'.ending gs' n passing x []) (sym at)
-    ∙ row_end i'.ending gs' n c.offset-at.result c.end-in-end.result c.last-entry.result i' (stop source b) met c.last-entry.ensures in
+    ∙ row_end i'.ending gs' n c.offset-at.result c.end_in-end.result c.last_entry.result i' (stop source b) met c.last_entry.ensures in
     record {
       means = meaning_by r.number r.delivered _ _ _ _ (sym was) (sym (ap (λ (st : Stage). part_by st n (decoded_left source r)) c.requires));
       passed = tt;

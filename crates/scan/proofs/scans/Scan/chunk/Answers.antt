@@ -1,12 +1,10 @@
-use Rattle.std.proofs.Common.{◌≡◌, ℕ, ◌-◌, ◌≤◌, min, length, take, sym, ap, ◌∙◌, arith, length-take-le, rules}
-use Rattle.byte_lines.specs.Bytes.{Bytes}
+use Rattle.std.proofs.Common.{◌≡◌, ℕ, ◌-◌, ◌≤◌, min, length, take, ap, ◌∙◌, arith, length-take-le, rules}
 use Rattle.scan.specs.Ready.{ready}
-use Rattle.scan.specs.Streams.{raw_left}
 use Rattle.scan.proofs.ReadyBytes.{ready-front, ready-waits}
 use Rattle.scan.proofs.scans.Scan.chunk.Goals as goal
 
-pub slice-bounds-result-end : goal.slice-bounds-result-end
-slice-bounds-result-end g c =
+pub slice_bounds-result-end : goal.slice_bounds-result-end
+slice_bounds-result-end g c =
     let h : c.ready-n.result ≤ length c.waiting-waiting.result.now =
     omega (arith, c.ready-n.ensures, ready-waits g.S.Source.meaning c.args.self.now, ap length c.waiting-waiting.ensures) in
     search rules

@@ -1,18 +1,16 @@
-use Rattle.std.proofs.Common.{◌≡◌, ℕ, ◌+◌, min, true, List, [], ◌∷◌, length, drop, sym, refl, ap, ◌∙◌, subst, arith}
+use Rattle.std.proofs.Common.{◌≡◌, ℕ, ◌+◌, min, true, List, ◌∷◌, length, drop, sym, ap, ◌∙◌, subst, arith}
 use Rattle.byte_lines.specs.Bytes.{Bytes}
 use Rattle.byte_lines.specs.Lines.{Line, lines}
 use Rattle.input.specs.Inputs.{Meaning, meaning, shown, unseen, passed}
 use Rattle.message.specs.Groups.{role, fits}
-use Rattle.levels.specs.declared.levels.Fit.{Fit}
 use Rattle.levels.specs.declared.levels.Fit.TheVariants.{Text}
 use Rattle.levels.specs.declared.levels.Levels.{Levels}
 use Rattle.levels.specs.Opened.{groups}
 use Rattle.levels.specs.Fits.{role_by, InDepth, leading}
 use Rattle.spans.proofs.Windowed.{fits_by_lem}
-use Rattle.scan.specs.declared.places.Place.{Place}
 use Rattle.scan.specs.declared.places.Place.TheVariants.{Ended}
 use Rattle.scan.specs.Ends.{answer}
-use Rattle.scan.specs.Streams.{Stop, stop, owed}
+use Rattle.scan.specs.Streams.{owed}
 use Rattle.scan.proofs.Endings.{ended-known}
 use Rattle.scan.proofs.Stops.{passed_offset}
 use Rattle.scan.proofs.LinePasses.{first_is}
@@ -23,9 +21,9 @@ unfolding lines
 returns-in-Text g c =
     let source = g.S.Source.meaning in
     let a = c.args.self.now in
-    let b = c.skip-body.new.self in
-    let m = c.skip-body.ensures.moved in
-    let h = c.skip-body.ensures.behind in
+    let b = c.skip_body.new.self in
+    let m = c.skip_body.ensures.moved in
+    let h = c.skip_body.ensures.behind in
     let plain : answer b.place ≡ Text = sym c.in-Text.ensures in
     let at : b.place ≡ Ended Text = h.place ∙ ap Ended plain in
     let none = h.at_end plain in
@@ -37,32 +35,32 @@ returns-in-Text g c =
       further = omega (arith, m.later, passed_offset source a, passed_offset source b);
     }
 
-pub returns-in-default : goal.returns-in-default
-returns-in-default g c =
+pub returns-in_default : goal.returns-in_default
+returns-in_default g c =
     let source = g.S.Source.meaning in
     let a = c.args.self.now in
-    let b = c.skip-body.new.self in
+    let b = c.skip_body.new.self in
     let d = c.fill.new.self in
     let e = c.pass.new.self in
-    let m = c.skip-body.ensures.moved in
-    let h = c.skip-body.ensures.behind in
+    let m = c.skip_body.ensures.moved in
+    let h = c.skip_body.ensures.behind in
     let f = c.fill.ensures in
     let v = c.view.result.now in
     let s = (meaning source b.input).left in
     let gs = groups a.levels in
-    let wide = c.first-line-width.result.width in
+    let wide = c.first_line-width.result.width in
     let levels : b.levels ≡ a.levels = m.inside in
     let same : meaning source d.input ≡ meaning source b.input = f.keeps.means in
     let left : (meaning source d.input).left ≡ s = ap (λ (x : Meaning). x.left) same in
     let answered : answer b.place ≡ c.fit.result = sym c.fit.ensures in
     let depth : InDepth (length (groups b.levels)) c.fit.result = subst (InDepth (length (groups b.levels))) answered h.within in
     let is : role_by (groups b.levels) c.fit.result ≡ role (groups b.levels) (leading s) = ap (role_by (groups b.levels)) (sym answered) ∙ h.line in
-    let fit : fits (role_by (groups b.levels) c.fit.result) ≡ true = fits_by_lem (groups b.levels) c.fit.result depth c.in-default.not-Text in
-    let found = first_is b.levels s v (unseen source d.input) c.first-line-width.result.len wide
+    let fit : fits (role_by (groups b.levels) c.fit.result) ≡ true = fits_by_lem (groups b.levels) c.fit.result depth c.in_default.not-Text in
+    let found = first_is b.levels s v (unseen source d.input) c.first_line-width.result.len wide
     (sym left ∙ c.view.ensures.front)
     (λ short. sym left ∙ (f.shows (omega (arith, ap length c.view.ensures.shows))).all ∙ sym c.view.ensures.shows)
-    c.first-line-width.ensures (ap fits (sym is) ∙ fit) in
-    let many : min wide (length (shown d.input)) ≡ wide = omega (arith, c.first-line-width.ensures.within, ap length c.view.ensures.shows) in
+    c.first_line-width.ensures (ap fits (sym is) ∙ fit) in
+    let many : min wide (length (shown d.input)) ≡ wide = omega (arith, c.first_line-width.ensures.within, ap length c.view.ensures.shows) in
     let after : meaning source e.input ≡ passed wide (meaning source b.input) =
     c.pass.ensures.means ∙ ap (λ (k : ℕ). passed k (meaning source d.input)) many ∙ ap (passed wide) same in
     let rest : (meaning source e.input).left ≡ drop wide s = ap (λ (x : Meaning). x.left) after in

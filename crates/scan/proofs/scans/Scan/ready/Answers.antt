@@ -1,4 +1,4 @@
-use Rattle.std.proofs.Common.{◌≡◌, ℕ, min, Bool, ◌⊎◌, is_some, sym, ap, ◌∙◌, inl, inr, arith}
+use Rattle.std.proofs.Common.{◌≡◌, min, Bool, is_some, sym, ap, ◌∙◌, inl, inr, arith}
 use Rattle.byte_lines.specs.Bytes.{Bytes}
 use Rattle.input.specs.Inputs.{shown}
 use Rattle.scan.specs.declared.places.Place.TheVariants.{Start, Return, Feed, Within, Ended}
@@ -15,9 +15,9 @@ returns-in-Feed g c = c.min-in-Feed.ensures ∙ ap (min c.args.most) (sym (ready
 pub returns-in-Within : goal.returns-in-Within
 returns-in-Within g c =
     let s = c.args.self.now in
-    c.ready-in.ensures
-    ∙ ap (λ (v : Bytes). min c.args.most (ready_in v c.is-some.result)) c.view.ensures.shows
-    ∙ ap (λ (b : Bool). min c.args.most (ready_in (shown s.input) b)) (c.is-some.ensures ∙ ap is_some c.end.ensures.is)
+    c.ready_in.ensures
+    ∙ ap (λ (v : Bytes). min c.args.most (ready_in v c.is_some.result)) c.view.ensures.shows
+    ∙ ap (λ (b : Bool). min c.args.most (ready_in (shown s.input) b)) (c.is_some.ensures ∙ ap is_some c.end.ensures.is)
     ∙ ap (min c.args.most) (sym (ready_at_lem g.S.Source.meaning s Within c.in-Within.is))
 
 pub returns-in-Start : goal.returns-in-Start

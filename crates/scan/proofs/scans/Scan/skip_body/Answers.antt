@@ -1,7 +1,4 @@
-use Rattle.std.proofs.Common.{min, [], ◌++◌, length, take, ap, arith}
-use Rattle.byte_lines.specs.Bytes.{Bytes}
-use Rattle.scan.specs.Ready.{ready}
-use Rattle.scan.specs.Streams.{raw_left}
+use Rattle.std.proofs.Common.{[], length, ap, arith}
 use Rattle.scan.proofs.BodyMoves.{moves-none, moves-twice, moves-all, moves-less}
 use Rattle.scan.proofs.scans.Scan.skip_body.Goals as goal
 

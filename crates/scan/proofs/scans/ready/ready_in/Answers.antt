@@ -1,4 +1,4 @@
-use Rattle.std.proofs.Common.{◌≡◌, ℕ, ◌-◌, min, Bool, cond, length, sym, ap, ◌∙◌, arith}
+use Rattle.std.proofs.Common.{◌≡◌, ◌-◌, Bool, cond, ap, arith}
 use Rattle.scan.specs.Ready.{until_cr, ready_in}
 use Rattle.scan.proofs.ReadyBytes.{until_take, until_fits}
 use Rattle.scan.proofs.scans.ready.ready_in.Goals as goal
@@ -6,5 +6,5 @@ use Rattle.scan.proofs.scans.ready.ready_in.Goals as goal
 pub returns : goal.returns
 returns c =
     let v = c.args.view.now in
-    let run : until_cr v ≡ ready_in v c.args.all = ap (λ (t : Bool). cond t 1 (until_cr v)) c.if-is-lone-cr.ensures in
-    omega (arith, c.run-len.ensures, until_take (c.min-2.result - 0) v, until_fits v, c.min-2.ensures, run)
+    let run : until_cr v ≡ ready_in v c.args.all = ap (λ (t : Bool). cond t 1 (until_cr v)) c.if-is_lone_cr.ensures in
+    omega (arith, c.run_len.ensures, until_take (c.min-2.result - 0) v, until_fits v, c.min-2.ensures, run)

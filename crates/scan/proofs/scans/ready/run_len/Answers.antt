@@ -1,4 +1,4 @@
-use Rattle.std.proofs.Common.{◌≡◌, ℕ, suc, ◌+◌, length, drop, ap, ◌∙◌, arith}
+use Rattle.std.proofs.Common.{◌≡◌, ℕ, suc, ◌+◌, drop, ap, ◌∙◌, arith}
 use Rattle.scan.specs.Ready.{until_cr}
 use Rattle.scan.proofs.ReadyBytes.{until_here, until_next, until_none}
 use Rattle.scan.proofs.scans.ready.run_len.Goals as goal

@@ -1,4 +1,4 @@
-use Rattle.std.proofs.Common.{◌≡◌, ℕ, ◌+◌, length, take, drop, fold}
+use Rattle.std.proofs.Common.{◌≡◌, ◌+◌, length, take, drop, fold}
 use Rattle.sink.specs.Values.{written}
 use Rattle.sink.proofs.store.StoreSink.take.Given as goal
 

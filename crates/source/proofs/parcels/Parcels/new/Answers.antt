@@ -1,6 +1,4 @@
-use Rattle.std.proofs.Common.{◌∷◌, refl, ap, ◌∙◌}
-use Rattle.std.specs.List.{flat_map}
-use Rattle.byte_lines.specs.Bytes.{Bytes}
+use Rattle.std.proofs.Common.{◌∷◌, refl}
 use Rattle.source.proofs.Cuts.{cut-zero, joined-cut}
 use Rattle.source.proofs.parcels.Parcels.new.Goals as goal
 

@@ -1,5 +1,5 @@
-use Rattle.std.proofs.Common.{◌≡◌, ℕ, ◌+◌, take, fold}
-use Rattle.sink.specs.Values.{Count, counted}
+use Rattle.std.proofs.Common.{◌≡◌, ◌+◌, take, fold}
+use Rattle.sink.specs.Values.{counted}
 use Rattle.sink.proofs.tally.takes.TallySink.take.Given as goal
 
 abbrev pub invariant-loop-b : goal.invariant-loop-b
