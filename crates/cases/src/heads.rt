@@ -380,7 +380,7 @@ fn packing(rt: HostRuntime) -> Result<(), Fail> {
         &mut table,
     );
     matches_expected(&rt, head, Expected::Leaf(2, Coding::Plain, 0))?;
-    assert!(rt; &buffer[0..14] == b"Subjecta  bX\0\0");
+    assert!(rt; &buffer[0..14] == b"Subjecta  bX\0\0".as_slice());
     assert!(rt; buffer[8190] == 0 && buffer[8191] == 0 && buffer[8192] == 7 && buffer[8193] == 7);
     let Record {
         name_start,

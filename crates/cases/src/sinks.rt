@@ -40,10 +40,10 @@ fn store_fills(rt: HostRuntime) {
     assert_eq!(rt; store.take(b"abc"), Ok(()));
     assert_eq!(rt; store.space(), 2);
     assert_eq!(rt; store.take(b"def"), Err(Refusal::Full));
-    assert!(rt; store.written() == b"abc");
+    assert!(rt; store.written() == b"abc".as_slice());
     assert_eq!(rt; store.space(), 2);
     assert_eq!(rt; store.take(b"d"), Ok(()));
-    assert!(rt; store.written() == b"abcd");
+    assert!(rt; store.written() == b"abcd".as_slice());
     assert!(rt; buffer == [b'a', b'b', b'c', b'd', 7]);
 }
 
@@ -62,7 +62,7 @@ fn drains(rt: HostRuntime) {
     let mut store = Store::new(&mut buffer);
     let mut source = Block::new(b"abcd");
     assert!(rt; matches!(drain(&mut source, &mut store), Drained::Full));
-    assert!(rt; store.written() == b"abc");
+    assert!(rt; store.written() == b"abc".as_slice());
     let mut tally = Tally::new();
     assert!(rt; matches!(drain(&mut source, &mut tally), Drained::Ended(End::Clean)));
     assert_eq!(rt; (tally.count(), tally.sum()), sum_of(&rt, b"d"));

@@ -24,11 +24,17 @@ fn counts<'a>(
 #[test]
 fn parcels_keep_apart(rt: HostRuntime) -> Result<(), Fail> {
     let heap = rt.alloc();
-    assert!(rt; counts(heap, b"abcdef", &[2, 0, 1, 9], &mut [0; 8])?.as_slice() == [2, 1, 3]);
-    assert!(rt; counts(heap, b"abcdef", &[2, 0, 1], &mut [0; 8])?.as_slice() == [2, 1, 3]);
-    assert!(rt; counts(heap, b"abcdef", &[0, 0], &mut [0; 8])?.as_slice() == [6]);
-    assert!(rt; counts(heap, b"abcdef", &[], &mut [0; 4])?.as_slice() == [4, 2]);
-    assert!(rt; counts(heap, b"abcdef", &[5, 1], &mut [0; 2])?.as_slice() == [2, 2, 1, 1]);
+    assert!(rt;
+        counts(heap, b"abcdef", &[2, 0, 1, 9], &mut [0; 8])?.as_slice() == [2, 1, 3].as_slice()
+    );
+    assert!(rt;
+        counts(heap, b"abcdef", &[2, 0, 1], &mut [0; 8])?.as_slice() == [2, 1, 3].as_slice()
+    );
+    assert!(rt; counts(heap, b"abcdef", &[0, 0], &mut [0; 8])?.as_slice() == [6].as_slice());
+    assert!(rt; counts(heap, b"abcdef", &[], &mut [0; 4])?.as_slice() == [4, 2].as_slice());
+    assert!(rt;
+        counts(heap, b"abcdef", &[5, 1], &mut [0; 2])?.as_slice() == [2, 2, 1, 1].as_slice()
+    );
     assert!(rt; counts(heap, b"", &[3], &mut [0; 2])?.is_empty());
     Ok(())
 }
