@@ -1,6 +1,6 @@
 -- A lawful body is read as it is written: one run for each stretch of it.
 use Rattle.std.proofs.Common.{◌≡◌, ℕ, zero, suc, ◌+◌, ◌*◌, ◌<◌, ◌≤◌, Bool, true, false, not, ◌&&◌, ◌||◌, eqb, List, [], ◌∷◌, ◌++◌, length, Some, None, Option, sym, refl, ap, ◌∙◌, inl, inr, append_assoc, append-nil, arith, length-append}
-use Rattle.std.specs.List.{AllByRecursion as All}
+use Rattle.std.specs.List.{AllByRecursion}
 use Rattle.std.proofs.lemmas.Bool.{eqb-true, and_parts, or_cases, or_parts, not-true, lt-ltb, le-leb}
 use Rattle.byte_lines.specs.Classes.{blank, hex}
 use Rattle.source.specs.declared.ends.End.TheVariants.{Clean}
@@ -103,7 +103,7 @@ chunk_run c at is =
     let ends : Run (Data 0) content.0 crlf (Size (content.0 + 1 + 1) 0 0) (content.0 + 1 + 1) [] = more refl (more refl none) in
     (content.0 + 1 + 1, run_join line.1 (run_quiet content.1 ends))
 
-chunks_run : (cs : List Chunk) (at : ℕ) → All IsChunk cs → (to : ℕ) × Run (Size at 0 0) at (written_chunks cs) (Size to 0 0) to (contents cs)
+chunks_run : (cs : List Chunk) (at : ℕ) → AllByRecursion IsChunk cs → (to : ℕ) × Run (Size at 0 0) at (written_chunks cs) (Size to 0 0) to (contents cs)
 chunks_run [] at is = (at, none)
 chunks_run (c ∷ cs) at is =
     let first = chunk_run c at is.0 in
@@ -180,7 +180,7 @@ trailer_line_run (b ∷ t) at is = go (eqb b 13) refl
         let r = text_run false t (at + 1) (line_tail b t is.line) in
         (r.0, more goes r.1)
 
-trailer_run : (ts : List Bytes) (at : ℕ) → All IsTrailer ts → Reaches Trailer at (written_trailer ts) Trailer []
+trailer_run : (ts : List Bytes) (at : ℕ) → AllByRecursion IsTrailer ts → Reaches Trailer at (written_trailer ts) Trailer []
 trailer_run [] at is = (at, none)
 trailer_run (t ∷ ts) at is = then (trailer_line_run t at is.0) (λ mid. trailer_run ts mid is.1)
 

@@ -1,6 +1,6 @@
 -- What the bytes taken so far look like where the framing stands, and that each byte keeps it so.
 use Rattle.std.proofs.Common.{◌≡◌, ℕ, zero, suc, ◌+◌, ◌*◌, ◌<◌, ◌≤◌, Bool, true, false, not, ◌&&◌, ◌||◌, eqb, ltb, leb, List, [], ◌∷◌, ◌++◌, length, Some, None, Option, sym, refl, ap, ◌∙◌, subst, append_assoc, append-nil, zero-add, arith, length-append}
-use Rattle.std.specs.List.{AllByRecursion as All}
+use Rattle.std.specs.List.{AllByRecursion}
 use Rattle.std.proofs.lemmas.List.{flat_map_more, length_push}
 use Rattle.std.proofs.ByRecursion.{All-push}
 use Rattle.std.proofs.lemmas.Bool.{eqb-true, and_parts, and_from, and_left, and_right, not_from_false, ltb-true, leb-true}
@@ -22,7 +22,7 @@ use Rattle.chunked.proofs.ReadsWritten.{value_cons}
 -- whole chunks stand before the size line that starts at `line`, with the data d, and `text` behind them
 pub record Behind (line : ℕ) (text w d : Bytes) : Type 0 where
   pub chunks : List Chunk
-  pub lawful : All IsChunk chunks
+  pub lawful : AllByRecursion IsChunk chunks
   pub place : line ≡ length (written_chunks chunks)
   pub is : w ≡ written_chunks chunks ++ text
   pub bytes : d ≡ contents chunks
@@ -73,11 +73,11 @@ pub record AfterData (place : ℕ) (text w d : Bytes) : Type 0 where
 -- chunks, the last size line and trailer lines, and `text` behind them
 pub record Trailing (text w : Bytes) : Type 0 where
   pub chunks : List Chunk
-  pub lawful : All IsChunk chunks
+  pub lawful : AllByRecursion IsChunk chunks
   pub last : SizeLine
   pub says : Says last 0
   pub lines : List Bytes
-  pub trailers : All IsTrailer lines
+  pub trailers : AllByRecursion IsTrailer lines
   pub is : w ≡ written_chunks chunks ++ (written_line last ++ (written_trailer lines ++ text))
 
 -- within a trailer line, not behind a CR

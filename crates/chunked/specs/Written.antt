@@ -1,6 +1,6 @@
 -- Chunked framing as it is written, and what the framing says of it. Assumes nothing.
 use Rattle.std.specs.Prelude.{◌≡◌, ℕ, ◌+◌, ◌*◌, ◌<◌, ◌≤◌, Bool, true, not, ◌&&◌, ◌||◌, List, [], ◌∷◌, ◌++◌, length, take, Some, None, Option, ◌==◌, ◌≢◌}
-use Rattle.std.specs.List.{flat_map, AllByRecursion as All}
+use Rattle.std.specs.List.{flat_map, AllByRecursion}
 use Rattle.byte_lines.specs.Classes.{blank, hex}
 use Rattle.source.specs.declared.ends.End.{End}
 use Rattle.source.specs.declared.ends.End.TheVariants.{Clean, Faulty}
@@ -71,9 +71,9 @@ pub record Body : Type 0 where
   pub trailer : List Bytes
 
 pub record IsBody (m : Body) : Type 0 where
-  pub chunks : All IsChunk m.chunks
+  pub chunks : AllByRecursion IsChunk m.chunks
   pub last : Says m.last 0
-  pub trailer : All IsTrailer m.trailer
+  pub trailer : AllByRecursion IsTrailer m.trailer
 
 abbrev pub written_chunks : List Chunk → Bytes
 written_chunks cs = flat_map written_chunk cs
@@ -113,13 +113,13 @@ TakenDecides =
 abbrev pub SizeFaultPlace : Type 0
 SizeFaultPlace =
     (s : Bytes) (place : ℕ) → (unframed s Clean).ending ≡ Faulty (fault 21 2 place)
-    → (cs : List Chunk) × (All IsChunk cs × ((take place s ≡ written_chunks cs) × ((unframed s Clean).bytes ≡ contents cs)))
+    → (cs : List Chunk) × (AllByRecursion IsChunk cs × ((take place s ≡ written_chunks cs) × ((unframed s Clean).bytes ≡ contents cs)))
 
 -- and 23 that of the first byte after a chunk's data
 abbrev pub DataFaultPlace : Type 0
 DataFaultPlace =
     (s : Bytes) (place : ℕ) → (unframed s Clean).ending ≡ Faulty (fault 23 2 place)
-    → (cs : List Chunk) × ((c : Chunk) × (All IsChunk cs × (IsChunk c
+    → (cs : List Chunk) × ((c : Chunk) × (AllByRecursion IsChunk cs × (IsChunk c
     × ((take place s ≡ written_chunks cs ++ (written_line c.line ++ c.content)) × ((unframed s Clean).bytes ≡ contents cs ++ c.content)))))
 
 -- what is taken and what is left are all that was to come

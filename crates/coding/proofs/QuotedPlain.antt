@@ -1,6 +1,6 @@
 -- A text that needs no coding is itself.
 use Rattle.std.proofs.Common.{◌≡◌, ℕ, ◌+◌, false, cond, eqb, List, [], ◌∷◌, ◌++◌, None, Option, sym, refl, ap, ◌∙◌}
-use Rattle.std.specs.List.{flat_map, AllByRecursion as All}
+use Rattle.std.specs.List.{flat_map, AllByRecursion}
 use Rattle.std.proofs.lemmas.Bool.{or_parts, eqb-false, ne_eqb}
 use Rattle.byte_lines.specs.Bytes.{Bytes}
 use Rattle.byte_lines.specs.Lines.{Line, line_bytes, width, crlf, lines}
@@ -36,7 +36,7 @@ line_plain l p =
     ap (λ (t : Bytes). text_of (softened t) t end) p.solid ∙ ap (λ (o : Option Bytes). text_of o l.content end) (softened_mere l.content p.mere)
     ∙ ap (λ (t : Bytes). t ++ end) (unescaped_mere l.content p.mere)
 
-lines_plain : (at : ℕ) (ls : List Line) (e : End) → All PlainLine ls → quoted_lines at ls e ≡ gives (flat_map line_bytes ls) e
+lines_plain : (at : ℕ) (ls : List Line) (e : End) → AllByRecursion PlainLine ls → quoted_lines at ls e ≡ gives (flat_map line_bytes ls) e
 unfolding quoted_lines
 lines_plain at [] e p = refl
 lines_plain at (l ∷ ls) e p =

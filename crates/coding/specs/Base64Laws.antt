@@ -1,6 +1,6 @@
 -- Base64: how much a text gives, and that an encoded text gives back what was encoded. Assumes nothing.
 use Rattle.std.specs.Prelude.{◌≡◌, ℕ, ◌+◌, ◌*◌, ◌/◌, ◌%◌, ◌<◌, ◌≤◌, [], ◌∷◌, ◌++◌, length, None, codes, ◌≢◌, slice_index}
-use Rattle.std.specs.List.{AllByRecursion as All}
+use Rattle.std.specs.List.{AllByRecursion}
 use Rattle.byte_lines.specs.Bytes.{Bytes}
 use Rattle.source.specs.declared.ends.End.{End}
 use Rattle.source.specs.declared.ends.End.TheVariants.{Clean}
@@ -29,7 +29,7 @@ abbrev pub NeverLonger : Type 0
 NeverLonger = (at : ℕ) (raw : Bytes) (e : End) → length (base64 at raw e).bytes ≤ length raw
 
 abbrev pub RoundTrip : Type 0
-RoundTrip = (s : Bytes) → All (λ b. b < 256) s → (at : ℕ) → base64 at (encoded s) Clean ≡ gives s Clean
+RoundTrip = (s : Bytes) → AllByRecursion (λ b. b < 256) s → (at : ℕ) → base64 at (encoded s) Clean ≡ gives s Clean
 
 -- a byte that stands for nothing changes nothing, but for the place of a fault behind it
 abbrev pub IgnoresOthers : Type 0

@@ -1,6 +1,6 @@
 -- What holds of quoted-printable as a whole. Assumes nothing.
 use Rattle.std.specs.Prelude.{◌≡◌, ℕ, ◌+◌, ◌/◌, ◌%◌, ◌<◌, ◌≤◌, true, false, [], ◌∷◌, length, None, nat_lt}
-use Rattle.std.specs.List.{AllByRecursion as All}
+use Rattle.std.specs.List.{AllByRecursion}
 use Rattle.byte_lines.specs.Bytes.{Bytes}
 use Rattle.byte_lines.specs.Lines.{Line, lines}
 use Rattle.byte_lines.specs.Strings.{has, trim_end}
@@ -38,7 +38,7 @@ pub record PlainLine (l : Line) : Type 0 where
 
 -- a body of such lines is itself
 abbrev pub PlainIsItself : Type 0
-PlainIsItself = (at : ℕ) (raw : Bytes) (e : End) → All PlainLine (lines raw) → quoted at raw e ≡ gives raw e
+PlainIsItself = (at : ℕ) (raw : Bytes) (e : End) → AllByRecursion PlainLine (lines raw) → quoted at raw e ≡ gives raw e
 
 pub record QuotedLaw : Type 0 where
   pub shorter : NeverLonger
