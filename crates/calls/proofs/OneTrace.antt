@@ -7,7 +7,7 @@ use Rattle.source.specs.Meanings.{Meaning as SourceMeaning}
 use Rattle.message.specs.Entries.{Entry}
 use Rattle.message.specs.Rows.{row_of}
 use Rattle.calls.specs.Calls.{AnySink, Call, Exchange, Trace, handed}
-use Rattle.calls.specs.ReaderMeaning.{rest, outcome}
+use Rattle.calls.specs.ReaderMeaning.{outcome}
 use Rattle.calls.specs.Traces.{part_body, part, given_from}
 use Rattle.calls.specs.RunLaw.{Every, Refusals, InOrder, Item, joined, Gave, Counted, FirstBytes, KeepsLaw}
 use Rattle.calls.proofs.OneAnswer.{owed, meaning_of}

@@ -2,7 +2,7 @@ ghost use Rattle.calls.specs.Mixed.{StoreOrTally, value_of};
 ghost use Rattle.calls.specs.Theorems.{EveryRunKeepsTheLaw, RefusalsLeaveNoTrace, RunsAlike, RunsGoOn};
 
 /// The kinds of the sinks of a run.
-pub trait Kinds {
+pub(crate) trait Kinds {
     ghost Index: { Type 0 };
 
     ghost kind: { Index → Type 0 };
@@ -10,7 +10,7 @@ pub trait Kinds {
 
 /// Every run keeps the law, whichever calls it holds and whatever kinds of sinks; two runs of the same calls are alike; a run can go on with any
 /// call; and without its refused calls a run is still a run.
-pub fn every_run_keeps_the_law<K: Kinds>() -> u8
+pub(crate) fn every_run_keeps_the_law<K: Kinds>() -> u8
     ensures keeps { EveryRunKeepsTheLaw K.Kinds.Index K.Kinds.kind }
     ensures alike { RunsAlike K.Kinds.Index K.Kinds.kind }
     ensures goes_on { RunsGoOn K.Kinds.Index K.Kinds.kind }
@@ -21,7 +21,7 @@ pub fn every_run_keeps_the_law<K: Kinds>() -> u8
 
 /// Stores and tallies in one run.
 #[derive(Drop)]
-pub struct Mixed;
+pub(crate) struct Mixed;
 
 impl Kinds for Mixed {
     ghost Index = { StoreOrTally };
@@ -30,7 +30,7 @@ impl Kinds for Mixed {
 }
 
 /// Runs with stores and tallies keep the law.
-pub fn mixed_runs_keep_the_law() -> u8
+pub(crate) fn mixed_runs_keep_the_law() -> u8
     ensures keeps { EveryRunKeepsTheLaw StoreOrTally value_of }
     ensures alike { RunsAlike StoreOrTally value_of }
     ensures goes_on { RunsGoOn StoreOrTally value_of }

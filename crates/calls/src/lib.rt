@@ -1,6 +1,4 @@
-//! What a reader's calls mean, and the law over every run of them.
+//! What a reader's calls mean, and the law over every run of them. The law is not public until the calls stand.
 #![tactic(auto)]
 
 mod laws;
-
-pub use laws::{Kinds, Mixed, every_run_keeps_the_law, mixed_runs_keep_the_law};

@@ -6,7 +6,6 @@ use Rattle.source.specs.declared.ends.Fault.{Fault}
 use Rattle.source.specs.declared.ends.End.{End}
 use Rattle.source.specs.declared.ends.End.TheVariants.{Clean, Faulty}
 use Rattle.source.specs.Meanings.{fault, means}
-use Rattle.coding.specs.declared.decoder.Coding.{Coding}
 use Rattle.coding.specs.declared.decoder.Coding.TheVariants.{Plain, Base64}
 use Rattle.coding.specs.Decoding.{Decoded, gives}
 use Rattle.head.specs.Fields.{Field}

@@ -1,5 +1,5 @@
 -- From one part to the next line of a group, or to the message's end.
-use Rattle.std.proofs.Common.{◌≡◌, ℕ, zero, suc, ◌+◌, Bool, true, false, List, [], ◌∷◌, length, is_some, Some, None, Option, sym, refl, ap, ◌∙◌, subst, arith}
+use Rattle.std.proofs.Common.{◌≡◌, ℕ, zero, suc, ◌+◌, Bool, true, false, List, [], ◌∷◌, length, is_some, Some, None, Option, sym, refl, ap, ◌∙◌, arith}
 use mathlib.Core.Bool.{false≢true}
 use Rattle.std.proofs.lemmas.Bool.{ltb-true}
 use Rattle.byte_lines.specs.Lines.{Line, lines, width}
@@ -23,7 +23,7 @@ use Rattle.levels.specs.declared.levels.Fit.{Fit}
 use Rattle.levels.specs.declared.levels.Fit.TheVariants.{Closes, Text}
 use Rattle.reader.specs.Stages.{is_of, fits_by}
 use Rattle.reader.specs.Readers.{ahead_by, last_of}
-use Rattle.reader.specs.Nexts.{end_by, Standing, Passed}
+use Rattle.reader.specs.Nexts.{end_by, Standing}
 use Rattle.source.specs.declared.sources.Source.{Ghosts}
 
 -- whether a line that fits is empty is nothing to it

@@ -1,11 +1,10 @@
 -- A group is closed by a line.
-use Rattle.std.proofs.Common.{◌≡◌, ℕ, zero, suc, ◌+◌, ◌<◌, ◌≤◌, Bool, true, false, ltb, List, [], ◌∷◌, ◌++◌, length, Some, None, Option, sym, refl, ap, ◌∙◌, subst, arith}
+use Rattle.std.proofs.Common.{◌≡◌, ℕ, zero, suc, ◌+◌, Bool, true, false, List, [], ◌∷◌, length, None, Option, sym, refl, ap, ◌∙◌, arith}
 use mathlib.Core.Bool.{false≢true}
 use Rattle.std.proofs.lemmas.Bool.{ltb-true, lt-ltb}
 use Rattle.byte_lines.specs.Lines.{lines}
-use Rattle.source.specs.Meanings.{Meaning as SourceMeaning}
 use Rattle.coding.specs.Decoding.{Decoded}
-use Rattle.input.specs.Inputs.{Meaning as InputMeaning, meaning as input_meaning}
+use Rattle.input.specs.Inputs.{Meaning as InputMeaning}
 use Rattle.message.specs.Groups.{Group, innermost, Role, separates, closes, text, inside, fits}
 use Rattle.message.specs.Entries.{Entry, closed, close_event}
 use Rattle.message.specs.Rows.{Opening, Mode, passing, line_row, opening, row}
@@ -13,12 +12,12 @@ use Rattle.message.proofs.Roles.{Splits}
 use Rattle.levels.specs.declared.levels.Fit.{Fit}
 use Rattle.levels.specs.declared.levels.Fit.TheVariants.{Separates, Closes, Text}
 use Rattle.levels.specs.Opened.{popped}
-use Rattle.levels.specs.Fits.{located, role_by}
+use Rattle.levels.specs.Fits.{located}
 use Rattle.spans.proofs.Windowed.{fits_by_lem}
 use Rattle.scan.specs.Streams.{Stop, stop_from}
 use Rattle.scan.proofs.Stops.{row-stop}
 use Rattle.reader.specs.declared.reader.Stage.{Stage}
-use Rattle.reader.specs.declared.reader.Stage.TheVariants.{Head, Body, Between, Line, Over}
+use Rattle.reader.specs.declared.reader.Stage.TheVariants.{Line}
 use Rattle.reader.specs.Stages.{is_of, fits_by}
 use Rattle.reader.specs.Readers.{ahead_by, part_by}
 use Rattle.reader.specs.Nexts.{Closing, closing_by, number_of}

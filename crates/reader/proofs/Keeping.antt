@@ -3,7 +3,6 @@ use Rattle.std.proofs.Common.{◌≡◌, ℕ, ◌+◌, ◌≤◌, List, Option, 
 use Rattle.message.specs.Entries.{Entry}
 use Rattle.calls.specs.ReaderMeaning.{Part, Meaning}
 use Rattle.input.specs.declared.window.Input.{Input}
-use Rattle.source.specs.Meanings.{Meaning as SourceMeaning}
 use Rattle.scan.specs.declared.scans.Scan.{Scan}
 use Rattle.scan.specs.Streams.{owed, passed_over}
 use Rattle.source.specs.declared.sources.Source.{Ghosts}
@@ -19,7 +18,7 @@ module _ {S : Type 0} {G : Ghosts S} (a b : Scan S G) where
 
 -- a meaning by its two parts that may have changed their form
 pub meaning_by : (number delivered : ℕ) (a a' : List Entry) (p p' : Option Part) → a ≡ a' → p ≡ p'
-    → record { number = number; ahead = a; part = p; delivered = delivered } ≡ record { number = number; ahead = a'; part = p'; delivered = delivered }
+    → ◌≡◌ {A = Meaning} (record { number = number; ahead = a; part = p; delivered = delivered }) (record { number = number; ahead = a'; part = p'; delivered = delivered })
 meaning_by number delivered a a' p p' e f =
-    ap (λ (x : List Entry). record { number = number; ahead = x; part = p; delivered = delivered }) e
-    ∙ ap (λ (x : Option Part). record { number = number; ahead = a'; part = x; delivered = delivered }) f
+    ap {B = Meaning} (λ (x : List Entry). record { number = number; ahead = x; part = p; delivered = delivered }) e
+    ∙ ap {B = Meaning} (λ (x : Option Part). record { number = number; ahead = a'; part = x; delivered = delivered }) f

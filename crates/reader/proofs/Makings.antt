@@ -1,11 +1,11 @@
 -- What a reader means that was just made.
-use Rattle.std.proofs.Common.{◌≡◌, ℕ, List, [], None, refl, ap, ◌∙◌}
+use Rattle.std.proofs.Common.{◌≡◌, ℕ, List, [], None, ap, ◌∙◌}
 use Rattle.source.specs.Meanings.{Meaning as SourceMeaning}
 use Rattle.input.specs.Inputs.{Meaning as InputMeaning, first}
 use Rattle.message.specs.Groups.{Group}
 use Rattle.message.specs.Rows.{row_of}
 use Rattle.scan.specs.Streams.{Stop}
-use Rattle.calls.specs.ReaderMeaning.{Meaning, made}
+use Rattle.calls.specs.ReaderMeaning.{made}
 use Rattle.reader.specs.declared.reader.Stage.TheVariants.{Head}
 use Rattle.reader.specs.Readers.{ahead_by}
 

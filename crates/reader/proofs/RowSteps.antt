@@ -1,19 +1,16 @@
 -- The row, a head or a line at a time.
-use Rattle.std.proofs.Common.{◌≡◌, ℕ, zero, suc, ◌+◌, ◌<◌, Bool, true, false, List, [], ◌∷◌, ◌++◌, length, sym, refl, ap, ◌∙◌, subst, arith}
+use Rattle.std.proofs.Common.{◌≡◌, ℕ, zero, suc, ◌+◌, Bool, true, false, List, [], ◌∷◌, ◌++◌, length, sym, refl, ap, ◌∙◌}
 use mathlib.Core.Bool.{false≢true}
-use Rattle.byte_lines.specs.Bytes.{Bytes}
 use Rattle.byte_lines.specs.Lines.{Line, width}
 use Rattle.source.specs.declared.ends.End.{End}
 use Rattle.head.specs.Media.{absent}
 use Rattle.message.specs.Groups.{Group, innermost, Role, separates, closes, text, inside, role, fits}
-use Rattle.message.specs.Entries.{Entry, closed, close_event}
-use Rattle.message.specs.Heads.{Stop, at_line, at_empty, at_end, Head, head}
-use Rattle.message.specs.Bodies.{end_in}
-use Rattle.message.specs.Rows.{Opening, new_group, told, Mode, heading, passing, opens, last_entry, line_row, opening, row, row_at_line, entity_row}
+use Rattle.message.specs.Entries.{closed, close_event}
+use Rattle.message.specs.Heads.{Head, head}
+use Rattle.message.specs.Rows.{heading, passing, line_row, opening, row, row_at_line, entity_row}
 use Rattle.message.proofs.Roles.{is_text, Splits}
 use Rattle.message.proofs.HeadLines.{head-fits, head-empty, head_more}
-use Rattle.levels.specs.Fits.{located, role_by}
-use Rattle.levels.specs.declared.levels.Fit.TheVariants.{Separates, Closes, Text}
+use Rattle.levels.specs.Fits.{located}
 use Rattle.reader.specs.Nexts.{behind_head}
 
 -- the role of a line that is known: the row in mode passing is the one from that line on

@@ -1,5 +1,5 @@
 -- The answers of a reader's calls, as the definition of the calls has them, each refusal by its number. Assumes nothing.
-use Rattle.std.specs.Prelude.{ℕ, List}
+use Rattle.std.specs.Prelude.{List}
 use Rattle.byte_lines.specs.Bytes.{Bytes}
 use Rattle.head.specs.declared.table.Record.{Record}
 use Rattle.calls.specs.Calls as calls

@@ -1,4 +1,4 @@
-//! The reader of messages: next, read, pour, finish, skip and delivered.
+//! The reader of messages: what it means, its answers, and steps of next. Its calls are not there yet.
 #![tactic(auto)]
 
 mod answers;

@@ -1,19 +1,17 @@
-use Rattle.std.proofs.Common.{◌≡◌, ℕ, true, List, ◌∷◌, length, sym, refl, ap, ◌∙◌, subst, arith}
+use Rattle.std.proofs.Common.{◌≡◌, ℕ, true, List, length, sym, refl, ap, ◌∙◌, subst, arith}
 use Rattle.byte_lines.specs.Lines.{lines}
 use Rattle.input.specs.Inputs.{Meaning as InputMeaning, meaning as input_meaning}
-use Rattle.message.specs.declared.events.Event.{Event}
-use Rattle.message.specs.Entries.{Entry, closed, close_event}
 use Rattle.message.specs.Groups.{Group, innermost}
 use Rattle.levels.specs.declared.levels.Levels.{Levels}
 use Rattle.levels.specs.Opened.{groups}
 use Rattle.coding.specs.Decoders.{meaning as decoder_meaning}
-use Rattle.scan.specs.Streams.{owed, passed_over, stop, stop_from}
+use Rattle.scan.specs.Streams.{owed, stop, stop_from}
 use Rattle.scan.proofs.Stops.{body-stop}
 use Rattle.reader.specs.declared.reader.Stage.{Stage}
 use Rattle.reader.specs.declared.reader.Stage.TheVariants.{Line}
 use Rattle.reader.specs.Stages.{slack, is_of, fits_by}
-use Rattle.reader.specs.Readers.{ahead_by, part_by, meaning}
-use Rattle.reader.specs.Nexts.{closing_by, number_of}
+use Rattle.reader.specs.Readers.{ahead_by, meaning}
+use Rattle.reader.specs.Nexts.{closing_by}
 use Rattle.reader.proofs.Keeping.{passed-same, still-within}
 use Rattle.reader.proofs.Closings.{closes_by, pops, fits_after, close-told, no_part}
 use Rattle.reader.proofs.reader.Reader.close_group.Goals as goal
@@ -25,20 +23,15 @@ invariant_of-self g c =
     let b = c.pop.new.self in
     let same = passed-same a b c.pop.ensures.input in
     let fits : is_of c.args.fit (groups a.levels) ≡ true = sym (ap (λ (st : Stage). fits_by st (groups a.levels)) c.requires.stage) ∙ r.fits in
-    let p = pops c.args.fit (groups a.levels) (groups b.levels) c.pop.result fits c.pop.ensures.groups in (
-      still-within a b (decoder_meaning r.decoder).place r.within (ap owed c.pop.ensures.begins) (omega (arith, same)),
-      (
-        r.bounded,
-        (
-          omega (arith, same, r.counted, ap slack c.requires.stage),
-          (
-            subst (λ (st : Stage). fits_by st (groups b.levels) ≡ true) (sym (ap (λ (q : ℕ × Stage). q.1) c.closing-marks.ensures))
-                (fits_after c.args.fit c.args.at p.top (groups b.levels) (ap (is_of c.args.fit) (sym p.all) ∙ fits)),
-            tt,
-          ),
-        ),
-      ),
-    )
+    let p = pops c.args.fit (groups a.levels) (groups b.levels) c.pop.result fits c.pop.ensures.groups in
+    record {
+      within = still-within a b (decoder_meaning r.decoder).place r.within (ap owed c.pop.ensures.begins) (omega (arith, same));
+      bounded = r.bounded;
+      counted = omega (arith, same, r.counted, ap slack c.requires.stage);
+      fits =
+          subst (λ (st : Stage). fits_by st (groups b.levels) ≡ true) (sym (ap (λ (q : ℕ × Stage). q.1) c.closing-marks.ensures))
+          (fits_after c.args.fit c.args.at p.top (groups b.levels) (ap (is_of c.args.fit) (sym p.all) ∙ fits));
+    }
 
 pub returns : goal.returns
 unfolding meaning

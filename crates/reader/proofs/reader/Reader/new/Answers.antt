@@ -1,4 +1,4 @@
-use Rattle.std.proofs.Common.{◌≡◌, ap, ◌∙◌}
+use Rattle.std.proofs.Common.{ap, ◌∙◌}
 use Rattle.input.specs.Inputs.{meaning as input_meaning}
 use Rattle.levels.specs.Opened.{groups}
 use Rattle.scan.specs.Streams.{stop}

@@ -3,12 +3,10 @@ use Rattle.byte_lines.specs.Lines.{lines}
 use Rattle.source.specs.declared.ends.End.{End}
 use Rattle.input.specs.Inputs.{meaning as input_meaning}
 use Rattle.message.specs.Groups.{Group}
-use Rattle.message.specs.Entries.{Entry}
 use Rattle.message.specs.Rows.{row, passing}
 use Rattle.levels.specs.declared.levels.Levels.{Levels}
 use Rattle.levels.specs.Opened.{groups}
 use Rattle.scan.specs.Streams.{Stop, stop}
-use Rattle.scan.specs.GroupLines.{NextLine, BehindLine, BehindAll}
 use Rattle.reader.specs.declared.reader.Stage.{Stage}
 use Rattle.reader.specs.declared.reader.Stage.TheVariants.{Line, Over}
 use Rattle.reader.specs.Readers.{ahead_by, part_by, meaning, decoded_left}
