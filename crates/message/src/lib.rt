@@ -1,4 +1,4 @@
-//! Messages: the levels of open groups, the line test, and the definition of a message's row of events.
+//! Messages: events, the definition of a message's row of events, and its laws.
 #![tactic(auto)]
 
 mod events;
