@@ -1,4 +1,4 @@
-use anyhow::anyhow;
+use anyhow::{Context, bail};
 use coding::Coding;
 use std::env;
 
@@ -19,23 +19,17 @@ impl Options {
         let mut words = env::args(rt)?;
         let _program = words.next();
         for word in words {
-            if word.as_str() == "--base64" {
-                coding = Some(Coding::Base64);
-            } else if word.as_str() == "--quoted" {
-                coding = Some(Coding::Quoted);
-            } else if word.as_str() == "--time" {
-                time = true;
-            } else if word.as_str().starts_with('-') || file.is_some() {
-                return Err(anyhow!(format!(in rt.alloc();
-                    "unknown option or second file '{word}'"
-                )?));
-            } else {
-                file = Some(word);
+            match word.as_str() {
+                "--base64" => coding = Some(Coding::Base64),
+                "--quoted" => coding = Some(Coding::Quoted),
+                "--time" => time = true,
+                option if option.starts_with('-') || file.is_some() => bail!(format!(in rt.alloc();
+                    "unknown option or second file '{option}'"
+                )?),
+                _ => file = Some(word),
             }
         }
-        let Some(coding) = coding else {
-            return Err(anyhow!("say --base64 or --quoted"));
-        };
+        let coding = coding.context("say --base64 or --quoted")?;
         Ok(Options { coding, time, file })
     }
 }

@@ -1,6 +1,6 @@
 ghost use Rattle.std.specs.Prelude.{◌<◌, ◌≤◌, IfOk};
 
-use anyhow::anyhow;
+use anyhow::{Context, anyhow, bail};
 use std::alloc::Global;
 use std::env;
 
@@ -30,43 +30,30 @@ impl Options {
 
     pub fn parse(rt: &HostRuntime) -> anyhow::Result<Options> {
         let mut options = Options::new();
-        let mut awaits_size = false;
         let mut words = env::args(rt)?;
         let _program = words.next();
-        for word in words {
-            if awaits_size {
-                options.take_parcel(rt.alloc(), word.as_str())?;
-                awaits_size = false;
-            } else if word.as_str() == "--parcel" {
-                awaits_size = true;
-            } else {
-                options.take(rt.alloc(), word)?;
+        while let Some(word) = words.next() {
+            match word.as_str() {
+                "--chunked" => options.chunked = true,
+                "--parcel" => {
+                    let size = words.next().context("--parcel wants a number")?;
+                    options.parcel = parcel_size(rt.alloc(), size.as_str())?;
+                }
+                _ => options.take(rt.alloc(), word)?,
             }
-        }
-        if awaits_size {
-            return Err(anyhow!("--parcel wants a number"));
         }
         Ok(options)
     }
 
-    /// The number behind `--parcel`.
-    fn take_parcel(&mut self, heap: Global, word: &str) -> anyhow::Result<()> {
-        let size = parcel_size(heap, word)?;
-        self.parcel = size;
-        Ok(())
-    }
-
-    /// One word that is neither `--parcel` nor its number.
+    /// One word that is no known option: the file.
     fn take(&mut self, heap: Global, word: String) -> anyhow::Result<()> {
-        if word.as_str() == "--chunked" {
-            self.chunked = true;
-        } else if word.as_str().starts_with('-') {
-            return Err(anyhow!(format!(in heap; "unknown option '{word}'")?));
-        } else if self.file.is_some() {
-            return Err(anyhow!(format!(in heap; "more than one file: '{word}'")?));
-        } else {
-            self.file = Some(word);
+        if word.as_str().starts_with('-') {
+            bail!(format!(in heap; "unknown option '{word}'")?);
         }
+        if self.file.is_some() {
+            bail!(format!(in heap; "more than one file: '{word}'")?);
+        }
+        self.file = Some(word);
         Ok(())
     }
 }
