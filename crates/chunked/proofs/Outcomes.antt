@@ -1,5 +1,5 @@
 -- What an end of the framing says of all the bytes below.
-use Rattle.std.proofs.Common.{◌≡◌, ℕ, zero, suc, ◌+◌, ◌≤◌, [], ◌∷◌, ◌++◌, length, take, sym, refl, ap, ◌∙◌, subst, append_assoc, append-nil, arith, length-append}
+use Rattle.std.proofs.Common.{◌≡◌, ℕ, zero, suc, ◌+◌, ◌≤◌, [], ◌∷◌, ◌++◌, length, take, sym, refl, ap, ◌∙◌, subst, append_assoc, append-nil, arith, length-append, Err}
 use Rattle.std.proofs.lemmas.List.{length_push, take_at}
 use Rattle.source.specs.declared.ends.End.{End}
 use Rattle.source.specs.declared.ends.End.TheVariants.{Clean, Faulty}
@@ -7,9 +7,7 @@ use Rattle.byte_lines.specs.Bytes.{Bytes}
 use Rattle.source.specs.Meanings.{fault}
 use Rattle.chunked.specs.declared.places.Place.{Place}
 use Rattle.chunked.specs.declared.places.Place.TheVariants.{Size, Extension, SizeEnd, Data, DataEnd, Trailer, TrailerEmpty, TrailerText, TrailerEnd}
-use Rattle.chunked.specs.declared.places.Step.{Step}
-use Rattle.chunked.specs.declared.places.Step.TheVariants.{Ends}
-use Rattle.chunked.specs.Framing.{Framed, framed, unframed, step, early, limit}
+use Rattle.chunked.specs.Framing.{Step, Framed, framed, unframed, step, early, limit}
 use Rattle.chunked.specs.Written.{written_line, written_chunks, Body, IsBody, written, CleanIsWritten, SizeFaultPlace, DataFaultPlace}
 use Rattle.chunked.proofs.Automaton.{given, by_step, by_none}
 use Rattle.chunked.proofs.ReadsWritten.{reads_what_is_written}
@@ -41,7 +39,7 @@ after-given TrailerText b d x = refl
 after-given TrailerEnd b d x = refl
 
 -- a byte that ends the framing gives nothing
-after_end : (p : Place) (at b : ℕ) (d : Bytes) (x : End) → step p at b ≡ Ends x → after p b d ≡ d ++ []
+after_end : (p : Place) (at b : ℕ) (d : Bytes) (x : End) → step p at b ≡ Err x → after p b d ≡ d ++ []
 after_end (Size line digits value) at b d x h = sym (append-nil d)
 after_end (Extension line value) at b d x h = sym (append-nil d)
 after_end (SizeEnd line value) at b d x h = sym (append-nil d)

@@ -1,5 +1,5 @@
 -- What the bytes taken so far look like where the framing stands, and that each byte keeps it so.
-use Rattle.std.proofs.Common.{◌≡◌, ℕ, zero, suc, ◌+◌, ◌*◌, ◌<◌, ◌≤◌, Bool, true, false, not, ◌&&◌, ◌||◌, eqb, ltb, leb, List, [], ◌∷◌, ◌++◌, length, Some, None, Option, sym, refl, ap, ◌∙◌, subst, append_assoc, append-nil, zero-add, arith, length-append}
+use Rattle.std.proofs.Common.{◌≡◌, ℕ, zero, suc, ◌+◌, ◌*◌, ◌<◌, ◌≤◌, Bool, true, false, not, ◌&&◌, ◌||◌, eqb, ltb, leb, List, [], ◌∷◌, ◌++◌, length, Some, None, Option, sym, refl, ap, ◌∙◌, subst, append_assoc, append-nil, zero-add, arith, length-append, Ok, Err}
 use Rattle.std.specs.List.{AllByRecursion}
 use Rattle.std.proofs.lemmas.List.{flat_map_more, length_push}
 use Rattle.std.proofs.ByRecursion.{All-push}
@@ -12,9 +12,7 @@ use Rattle.byte_lines.specs.Bytes.{Bytes}
 use Rattle.source.specs.Meanings.{fault}
 use Rattle.chunked.specs.declared.places.Place.{Place}
 use Rattle.chunked.specs.declared.places.Place.TheVariants.{Size, Extension, SizeEnd, Data, DataEnd, Trailer, TrailerEmpty, TrailerText, TrailerEnd}
-use Rattle.chunked.specs.declared.places.Step.{Step}
-use Rattle.chunked.specs.declared.places.Step.TheVariants.{Goes, Ends}
-use Rattle.chunked.specs.Framing.{step, in_size, behind_digits, digit, in_extension, in_data, size_fault, data_fault, chunk, largest}
+use Rattle.chunked.specs.Framing.{Step, step, in_size, behind_digits, digit, in_extension, in_data, size_fault, data_fault, chunk, largest}
 use Rattle.chunked.specs.Written.{crlf, value_from, unbroken, is_extension, one_line, SizeLine, Says, written_line, Chunk, IsChunk, written_chunk, IsTrailer, Body, IsBody}
 use Rattle.chunked.specs.Written.{written_chunks, written_trailer, written, contents}
 use Rattle.chunked.proofs.ReadsWritten.{value_cons}
@@ -117,8 +115,8 @@ Finished Clean w d = (m : Body) × (IsBody m × (w ≡ written m))
 Finished (Faulty f) w d = Blamed f w d
 
 abbrev pub Kept : Step → (w d : Bytes) → Type 0
-Kept (Goes q) w d = Stands q w d
-Kept (Ends x) w d = Finished x w d
+Kept (Ok q) w d = Stands q w d
+Kept (Err x) w d = Finished x w d
 
 -- the bytes given behind b
 abbrev pub after : Place → ℕ → Bytes → Bytes
@@ -219,7 +217,7 @@ kept-digit : (line k v b x : ℕ) (w d : Bytes) → hex b ≡ Some x → AtSize 
 kept-digit line k v b x w d e h = go (ltb k 8 && leb (v * 16 + x) largest) refl
   where
     go : (t : Bool) → (ltb k 8 && leb (v * 16 + x) largest) ≡ t
-        → Kept (elim t [ true ↦ Goes (Size line (k + 1) (v * 16 + x)) | false ↦ size_fault line ]) (w ++ (b ∷ [])) d
+        → Kept (elim t [ true ↦ Ok (Size line (k + 1) (v * 16 + x)) | false ↦ size_fault line ]) (w ++ (b ∷ [])) d
     go true y =
         let parts = and_parts (ltb k 8) (leb (v * 16 + x) largest) y in
         record {
@@ -244,7 +242,7 @@ kept-behind line (suc k) v b w d h = go (eqb b 13) refl
     next : Behind line (h.text ++ (b ∷ [])) (w ++ (b ∷ [])) d
     next = behind_more (b ∷ []) h.behind
 
-    extends : (t : Bool) → (eqb b 59 || blank b) ≡ t → Kept (elim t [ true ↦ Goes (Extension line v) | false ↦ size_fault line ]) (w ++ (b ∷ [])) d
+    extends : (t : Bool) → (eqb b 59 || blank b) ≡ t → Kept (elim t [ true ↦ Ok (Extension line v) | false ↦ size_fault line ]) (w ++ (b ∷ [])) d
     extends true y =
         record {
           size = record { digits = h.text; extension = b ∷ [] };
@@ -256,8 +254,8 @@ kept-behind line (suc k) v b w d h = go (eqb b 13) refl
 
     go : (t : Bool) → eqb b 13 ≡ t
         → Kept (elim t [
-          | true ↦ Goes (SizeEnd line v)
-          | false ↦ elim (eqb b 59 || blank b) [ true ↦ Goes (Extension line v) | false ↦ size_fault line ]
+          | true ↦ Ok (SizeEnd line v)
+          | false ↦ elim (eqb b 59 || blank b) [ true ↦ Ok (Extension line v) | false ↦ size_fault line ]
         ]) (w ++ (b ∷ [])) d
     go true y =
         record { size = record { digits = h.text; extension = [] }; behind = as_byte h.text b 13 y next; says = says_of line k v w d [] h refl }
@@ -276,7 +274,7 @@ kept_extension line v b w d h = go (eqb b 13) refl
     next : Behind line (h.size.digits ++ (h.size.extension ++ (b ∷ []))) (w ++ (b ∷ [])) d
     next = subst (λ (x : Bytes). Behind line x (w ++ (b ∷ [])) d) (append_assoc h.size.digits h.size.extension (b ∷ [])) (behind_more (b ∷ []) h.behind)
 
-    within : (t : Bool) → eqb b 13 ≡ false → eqb b 10 ≡ t → Kept (elim t [ true ↦ size_fault line | false ↦ Goes (Extension line v) ]) (w ++ (b ∷ [])) d
+    within : (t : Bool) → eqb b 13 ≡ false → eqb b 10 ≡ t → Kept (elim t [ true ↦ size_fault line | false ↦ Ok (Extension line v) ]) (w ++ (b ∷ [])) d
     within true cr y = size_blamed line (h.size.digits ++ (h.size.extension ++ (b ∷ []))) (w ++ (b ∷ [])) d next
     within false cr y =
         record {
@@ -293,7 +291,7 @@ kept_extension line v b w d h = go (eqb b 13) refl
         }
 
     go : (t : Bool) → eqb b 13 ≡ t
-        → Kept (elim t [ true ↦ Goes (SizeEnd line v) | false ↦ elim (eqb b 10) [ true ↦ size_fault line | false ↦ Goes (Extension line v) ] ]) (w ++ (b ∷ [])) d
+        → Kept (elim t [ true ↦ Ok (SizeEnd line v) | false ↦ elim (eqb b 10) [ true ↦ size_fault line | false ↦ Ok (Extension line v) ] ]) (w ++ (b ∷ [])) d
     go true y =
         record {
           size = h.size;
@@ -326,7 +324,7 @@ stands-chunk line (suc n) size w d says h =
       bytes = sym (append-nil d);
     }
 
-kept_size_end : (line v b : ℕ) (w d : Bytes) → AtSizeEnd line v w d → Kept (elim (eqb b 10) [ true ↦ Goes (chunk v) | false ↦ size_fault line ]) (w ++ (b ∷ [])) d
+kept_size_end : (line v b : ℕ) (w d : Bytes) → AtSizeEnd line v w d → Kept (elim (eqb b 10) [ true ↦ Ok (chunk v) | false ↦ size_fault line ]) (w ++ (b ∷ [])) d
 kept_size_end line v b w d h = go (eqb b 10) refl
   where
     next : Behind line ((h.size.digits ++ (h.size.extension ++ (13 ∷ []))) ++ (b ∷ [])) (w ++ (b ∷ [])) d
@@ -335,7 +333,7 @@ kept_size_end line v b w d h = go (eqb b 10) refl
     ends : (h.size.digits ++ (h.size.extension ++ (13 ∷ []))) ++ (10 ∷ []) ≡ written_line h.size
     ends = simp append_assoc
 
-    go : (t : Bool) → eqb b 10 ≡ t → Kept (elim t [ true ↦ Goes (chunk v) | false ↦ size_fault line ]) (w ++ (b ∷ [])) d
+    go : (t : Bool) → eqb b 10 ≡ t → Kept (elim t [ true ↦ Ok (chunk v) | false ↦ size_fault line ]) (w ++ (b ∷ [])) d
     go true y =
         stands-chunk line v h.size (w ++ (b ∷ [])) d h.says
         (subst (λ (x : Bytes). Behind line x (w ++ (b ∷ [])) d) ends (as_byte (h.size.digits ++ (h.size.extension ++ (13 ∷ []))) b 10 y next))
@@ -362,7 +360,7 @@ kept_data zero at b w d n h = go (eqb b 13) refl
           count = omega (arith, length_push w b);
         }
 
-    go : (t : Bool) → eqb b 13 ≡ t → Kept (elim t [ true ↦ Goes (DataEnd at) | false ↦ data_fault at ]) (w ++ (b ∷ [])) d
+    go : (t : Bool) → eqb b 13 ≡ t → Kept (elim t [ true ↦ Ok (DataEnd at) | false ↦ data_fault at ]) (w ++ (b ∷ [])) d
     go true y = after_byte [] b 13 y next
     go false y = data_blamed at (b ∷ []) (w ++ (b ∷ [])) d next
 kept_data (suc left) at b w d n h =
@@ -404,13 +402,13 @@ next_chunk place at w d n h =
     }
 
 kept_data_end : (place at b : ℕ) (w d : Bytes) → at ≡ length w → AfterData place (13 ∷ []) w d
-    → Kept (elim (eqb b 10) [ true ↦ Goes (Size (at + 1) 0 0) | false ↦ data_fault place ]) (w ++ (b ∷ [])) d
+    → Kept (elim (eqb b 10) [ true ↦ Ok (Size (at + 1) 0 0) | false ↦ data_fault place ]) (w ++ (b ∷ [])) d
 kept_data_end place at b w d n h = go (eqb b 10) refl
   where
     next : AfterData place (13 ∷ (b ∷ [])) (w ++ (b ∷ [])) d
     next = after_more (b ∷ []) h
 
-    go : (t : Bool) → eqb b 10 ≡ t → Kept (elim t [ true ↦ Goes (Size (at + 1) 0 0) | false ↦ data_fault place ]) (w ++ (b ∷ [])) d
+    go : (t : Bool) → eqb b 10 ≡ t → Kept (elim t [ true ↦ Ok (Size (at + 1) 0 0) | false ↦ data_fault place ]) (w ++ (b ∷ [])) d
     go true y = next_chunk place (at + 1) (w ++ (b ∷ [])) d (omega (arith, length_push w b)) (after_byte (13 ∷ []) b 10 y next)
     go false y = data_blamed place (13 ∷ (b ∷ [])) (w ++ (b ∷ [])) d next
 
@@ -459,24 +457,24 @@ stands_text : (front w : Bytes) (b : ℕ) → one_line (front ++ (b ∷ [])) ≡
 stands_text front w b line cr h =
     record { text = front ++ (b ∷ []); trailing = h; some = omega (arith, length_push front b); line = line; any = λ c. line_any front b c line cr }
 
-kept_trailer : (b : ℕ) (w d : Bytes) → Trailing [] w → Kept (elim (eqb b 13) [ true ↦ Goes TrailerEmpty | false ↦ Goes TrailerText ]) (w ++ (b ∷ [])) d
+kept_trailer : (b : ℕ) (w d : Bytes) → Trailing [] w → Kept (elim (eqb b 13) [ true ↦ Ok TrailerEmpty | false ↦ Ok TrailerText ]) (w ++ (b ∷ [])) d
 unfolding one_line
 kept_trailer b w d h = go (eqb b 13) refl
   where
-    go : (t : Bool) → eqb b 13 ≡ t → Kept (elim t [ true ↦ Goes TrailerEmpty | false ↦ Goes TrailerText ]) (w ++ (b ∷ [])) d
+    go : (t : Bool) → eqb b 13 ≡ t → Kept (elim t [ true ↦ Ok TrailerEmpty | false ↦ Ok TrailerText ]) (w ++ (b ∷ [])) d
     go true y = trailing_byte [] b 13 y (trailing_more (b ∷ []) h)
     go false y = stands_text [] (w ++ (b ∷ [])) b refl y (trailing_more (b ∷ []) h)
 
-kept_text : (b : ℕ) (w d : Bytes) → AtText w → Kept (elim (eqb b 13) [ true ↦ Goes TrailerEnd | false ↦ Goes TrailerText ]) (w ++ (b ∷ [])) d
+kept_text : (b : ℕ) (w d : Bytes) → AtText w → Kept (elim (eqb b 13) [ true ↦ Ok TrailerEnd | false ↦ Ok TrailerText ]) (w ++ (b ∷ [])) d
 kept_text b w d h = go (eqb b 13) refl
   where
-    go : (t : Bool) → eqb b 13 ≡ t → Kept (elim t [ true ↦ Goes TrailerEnd | false ↦ Goes TrailerText ]) (w ++ (b ∷ [])) d
+    go : (t : Bool) → eqb b 13 ≡ t → Kept (elim t [ true ↦ Ok TrailerEnd | false ↦ Ok TrailerText ]) (w ++ (b ∷ [])) d
     go true y = record { text = h.text; trailing = trailing_byte h.text b 13 y (trailing_more (b ∷ []) h.trailing); some = h.some; line = h.line }
     go false y = stands_text h.text (w ++ (b ∷ [])) b (h.any b) y (trailing_more (b ∷ []) h.trailing)
 
 -- behind a CR, a byte that is no LF
 kept-behind_cr : (t : Bytes) (b : ℕ) (w d : Bytes) → one_line t ≡ true → eqb b 10 ≡ false → Trailing (t ++ (13 ∷ [])) w
-    → Kept (elim (eqb b 13) [ true ↦ Goes TrailerEnd | false ↦ Goes TrailerText ]) (w ++ (b ∷ [])) d
+    → Kept (elim (eqb b 13) [ true ↦ Ok TrailerEnd | false ↦ Ok TrailerText ]) (w ++ (b ∷ [])) d
 kept-behind_cr t b w d line lf h = go (eqb b 13) refl
   where
     front : one_line (t ++ (13 ∷ [])) ≡ true
@@ -485,19 +483,19 @@ kept-behind_cr t b w d line lf h = go (eqb b 13) refl
     next : Trailing ((t ++ (13 ∷ [])) ++ (b ∷ [])) (w ++ (b ∷ []))
     next = trailing_more (b ∷ []) h
 
-    go : (c : Bool) → eqb b 13 ≡ c → Kept (elim c [ true ↦ Goes TrailerEnd | false ↦ Goes TrailerText ]) (w ++ (b ∷ [])) d
+    go : (c : Bool) → eqb b 13 ≡ c → Kept (elim c [ true ↦ Ok TrailerEnd | false ↦ Ok TrailerText ]) (w ++ (b ∷ [])) d
     go true y = record { text = t ++ (13 ∷ []); trailing = trailing_byte (t ++ (13 ∷ [])) b 13 y next; some = omega (arith, length_push t 13); line = front }
     go false y = stands_text (t ++ (13 ∷ [])) (w ++ (b ∷ [])) b (line_push (t ++ (13 ∷ [])) b front lf) y next
 
 kept_text_end : (b : ℕ) (w d : Bytes) → AtTextEnd w
-    → Kept (elim (eqb b 10) [ true ↦ Goes Trailer | false ↦ elim (eqb b 13) [ true ↦ Goes TrailerEnd | false ↦ Goes TrailerText ] ]) (w ++ (b ∷ [])) d
+    → Kept (elim (eqb b 10) [ true ↦ Ok Trailer | false ↦ elim (eqb b 13) [ true ↦ Ok TrailerEnd | false ↦ Ok TrailerText ] ]) (w ++ (b ∷ [])) d
 kept_text_end b w d h = go (eqb b 10) refl
   where
     next : Trailing (h.text ++ (13 ∷ (b ∷ []))) (w ++ (b ∷ []))
     next = subst (λ (x : Bytes). Trailing x (w ++ (b ∷ []))) (append_assoc h.text (13 ∷ []) (b ∷ [])) (trailing_more (b ∷ []) h.trailing)
 
     go : (t : Bool) → eqb b 10 ≡ t
-        → Kept (elim t [ true ↦ Goes Trailer | false ↦ elim (eqb b 13) [ true ↦ Goes TrailerEnd | false ↦ Goes TrailerText ] ]) (w ++ (b ∷ [])) d
+        → Kept (elim t [ true ↦ Ok Trailer | false ↦ elim (eqb b 13) [ true ↦ Ok TrailerEnd | false ↦ Ok TrailerText ] ]) (w ++ (b ∷ [])) d
     go true y =
         let whole : Trailing (h.text ++ crlf) (w ++ (b ∷ [])) = subst (λ (n : ℕ). Trailing (h.text ++ (13 ∷ (n ∷ []))) (w ++ (b ∷ []))) (eqb-true b 10 y) next in
         trailing_line h.text (w ++ (b ∷ [])) (record { some = h.some; line = h.line }) whole
@@ -509,12 +507,12 @@ body_of w h =
     (record { chunks = h.chunks; last = h.last; trailer = h.lines }, (record { chunks = h.lawful; last = h.says; trailer = h.trailers }, h.is))
 
 kept_empty : (b : ℕ) (w d : Bytes) → Trailing (13 ∷ []) w
-    → Kept (elim (eqb b 10) [ true ↦ Ends Clean | false ↦ elim (eqb b 13) [ true ↦ Goes TrailerEnd | false ↦ Goes TrailerText ] ]) (w ++ (b ∷ [])) d
+    → Kept (elim (eqb b 10) [ true ↦ Err Clean | false ↦ elim (eqb b 13) [ true ↦ Ok TrailerEnd | false ↦ Ok TrailerText ] ]) (w ++ (b ∷ [])) d
 unfolding one_line
 kept_empty b w d h = go (eqb b 10) refl
   where
     go : (t : Bool) → eqb b 10 ≡ t
-        → Kept (elim t [ true ↦ Ends Clean | false ↦ elim (eqb b 13) [ true ↦ Goes TrailerEnd | false ↦ Goes TrailerText ] ]) (w ++ (b ∷ [])) d
+        → Kept (elim t [ true ↦ Err Clean | false ↦ elim (eqb b 13) [ true ↦ Ok TrailerEnd | false ↦ Ok TrailerText ] ]) (w ++ (b ∷ [])) d
     go true y = body_of (w ++ (b ∷ [])) (trailing_byte (13 ∷ []) b 10 y (trailing_more (b ∷ []) h))
     go false y = kept-behind_cr [] b w d refl y h
 
