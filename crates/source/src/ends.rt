@@ -1,3 +1,6 @@
+ghost use Rattle.std.specs.Prelude.{Some};
+ghost use Rattle.source.specs.Texts.{fault_text, end_text};
+
 use std::fmt;
 
 /// What went wrong: its number, the layer that found it (1 source, 2 framing, 3 message, 4 head, 5 coding), and its place.
@@ -18,6 +21,8 @@ pub enum End {
 }
 
 impl fmt::Display for Fault {
+    ghost output = { λ f. Some (fault_text f) };
+
     fn fmt<W: fmt::Write>(&self, f: &mut fmt::Formatter<W>) -> fmt::Result {
         let Fault {
             number,
@@ -29,6 +34,8 @@ impl fmt::Display for Fault {
 }
 
 impl fmt::Display for End {
+    ghost output = { λ e. Some (end_text e) };
+
     fn fmt<W: fmt::Write>(&self, f: &mut fmt::Formatter<W>) -> fmt::Result {
         match self {
             End::Clean => write!(f, "clean"),
