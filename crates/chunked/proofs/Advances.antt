@@ -4,8 +4,8 @@ use Rattle.std.proofs.lemmas.List.{length-append, take_at, drop_at}
 use Rattle.std.proofs.lemmas.Bool.{lt-ltb}
 use Rattle.source.specs.declared.ends.End.{End}
 use Rattle.byte_lines.specs.Bytes.{Bytes}
-use Rattle.source.specs.Meanings.{Meaning, means, Pulls, answer}
-use Rattle.source.proofs.Pulling.{Given, Told, given, told}
+use Rattle.source.specs.Meanings.{Meaning, means}
+use Rattle.source.proofs.Pulling.{Given, Told}
 use Rattle.chunked.specs.declared.places.Place.{Place}
 use Rattle.chunked.specs.declared.places.Place.TheVariants.{Data}
 use Rattle.chunked.specs.Framing.{Step, Framed, framed, step, stops, delivers, is_data, early, overrun, limit}

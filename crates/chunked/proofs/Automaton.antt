@@ -6,37 +6,21 @@ use Rattle.source.specs.declared.ends.End.TheVariants.{Clean, Faulty}
 use Rattle.byte_lines.specs.Bytes.{Bytes}
 use Rattle.source.specs.Meanings.{fault}
 use Rattle.chunked.specs.declared.places.Place.{Place}
-use Rattle.chunked.specs.declared.places.Place.TheVariants.{Size, Extension, SizeEnd, Data, DataEnd, Trailer, TrailerEmpty, TrailerText, TrailerEnd}
+use Rattle.chunked.specs.declared.places.Place.TheVariants.{Size, Data}
 use Rattle.chunked.specs.Framing.{Step, Framed, framed, unframed, step, stops, delivers, overrun, early, limit}
 use Rattle.chunked.specs.Written.{SoundSoFar, TakenDecides, NothingLost}
 
 -- the bytes that b gives at a place
 abbrev pub given : Place → ℕ → Bytes
-given (Size line digits value) b = []
-given (Extension line value) b = []
-given (SizeEnd line value) b = []
-given (Data zero) b = []
 given (Data (suc n)) b = b ∷ []
-given (DataEnd place) b = []
-given Trailer b = []
-given TrailerEmpty b = []
-given TrailerText b = []
-given TrailerEnd b = []
+given p b = []
 
 abbrev pub prepend : Bytes → Framed → Framed
 prepend d f = record { bytes = d ++ f.bytes; ending = f.ending; taken = f.taken; left = f.left }
 
-pub delivers_is : (p : Place) (b : ℕ) (f : Framed) → delivers p b f ≡ prepend (given p b) f
-delivers_is (Size line digits value) b f = refl
-delivers_is (Extension line value) b f = refl
-delivers_is (SizeEnd line value) b f = refl
-delivers_is (Data zero) b f = refl
+delivers_is : (p : Place) (b : ℕ) (f : Framed) → delivers p b f ≡ prepend (given p b) f
 delivers_is (Data (suc n)) b f = refl
-delivers_is (DataEnd place) b f = refl
-delivers_is Trailer b f = refl
-delivers_is TrailerEmpty b f = refl
-delivers_is TrailerText b f = refl
-delivers_is TrailerEnd b f = refl
+delivers_is p b f = refl
 
 pub framed_goes : (p q : Place) (at b : ℕ) (s : Bytes) (e : End) → at < limit → step p at b ≡ Ok q
     → framed p at (b ∷ s) e ≡ prepend (given p b) (framed q (at + 1) s e)

@@ -21,7 +21,7 @@ value_cons v b ds n h = go (hex b) refl h
     go : (o : Option ℕ) → hex b ≡ o → elim o [ Some d ↦ value_from (v * 16 + d) ds | None ↦ None ] ≡ Some n
         → (d : ℕ) × ((hex b ≡ Some d) × (value_from (v * 16 + d) ds ≡ Some n))
     go (Some d) e h = (d, (e, h))
-    go None e h = let z : ◌≡◌ {A = ℕ} 0 1 = cc in absurd (omega arith)
+    go None e h = absurd cc
 
 value_none : (v n : ℕ) → value_from v [] ≡ Some n → v ≡ n
 unfolding value_from

@@ -85,16 +85,8 @@ giving b f = record { bytes = b ∷ f.bytes; ending = f.ending; taken = f.taken;
 
 -- a byte of a chunk's data
 abbrev pub is_data : Place → Bool
-is_data (Size line digits value) = false
-is_data (Extension line value) = false
-is_data (SizeEnd line value) = false
-is_data (Data zero) = false
 is_data (Data (suc n)) = true
-is_data (DataEnd place) = false
-is_data Trailer = false
-is_data TrailerEmpty = false
-is_data TrailerText = false
-is_data TrailerEnd = false
+is_data p = false
 
 -- is one of those to come, and no other byte is
 abbrev pub delivers : Place → ℕ → Framed → Framed

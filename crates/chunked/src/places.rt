@@ -9,6 +9,7 @@ use source::End;
 const LARGEST: u32 = 16_777_216;
 
 /// Where the next byte from below stands in the framing.
+// No struct of a line and its value: `Size { line: Line { start, value }, digits }` is longer, and the definition of the framing takes the numbers apart.
 #[derive(Clone, Copy)]
 pub(crate) enum Place {
     /// In the size line that starts at `line`, behind so many digits of that value.

@@ -96,6 +96,7 @@ impl<S: Source> Chunked<S> {
         ensures left { (framing S.Source.meaning self.new).left ≡ (framing S.Source.meaning self.old).left }
         ensures tells { at_end self.new ≡ not ((answer result).0 == 0) }
     {
+        // No `From` leads between u32 and usize: these casts are proved to fit.
         let most = left.min(LIMIT - self.taken) as usize;
         let room = most.min(buffer.len());
         match self.source.pull(&mut buffer[..room]) {
