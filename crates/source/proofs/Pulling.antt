@@ -1,9 +1,8 @@
 -- What a caller learns from a pull, by its answer.
-use Rattle.std.proofs.Common.{◌≡◌, ℕ, ◌<◌, ◌≤◌, [], ◌∷◌, ◌++◌, length, take, drop, sym, refl, ap, ◌∙◌, arith}
+use Rattle.std.proofs.Common.{◌≡◌, ℕ, ◌<◌, ◌≤◌, [], ◌∷◌, ◌++◌, length, take, drop, Ok, Err, sym, refl, ap, ◌∙◌, arith}
 use Rattle.std.proofs.lemmas.List.{append_assoc, drop-append-le, take-append-drop}
 use Rattle.source.specs.declared.ends.End.{End}
 use Rattle.source.specs.declared.ends.End.TheVariants.{Clean, Faulty}
-use Rattle.source.specs.declared.sources.Pulled.TheVariants.{Gave, Ended}
 use Rattle.byte_lines.specs.Bytes.{Bytes, Answer}
 use Rattle.source.specs.Meanings.{Meaning, MayGive, means, Pulls, answer, gave, ended, fault, pulled}
 
@@ -56,7 +55,7 @@ given_by (x ∷ xs) e (b ∷ bs) k n m' buffer' c r =
     let some : 0 < k = c.some (omega arith) (omega arith) in
     record { comes = omega arith; fits = omega arith; some = λ h. omega arith; after = cc; filled = cc }
 
-pub given : (m : Meaning) (buffer : Bytes) (n : ℕ) (m' : Meaning) (buffer' : Bytes) → Pulls m buffer (answer (Gave n)) m' buffer' → Given m buffer n m' buffer'
+pub given : (m : Meaning) (buffer : Bytes) (n : ℕ) (m' : Meaning) (buffer' : Bytes) → Pulls m buffer (answer (Ok n)) m' buffer' → Given m buffer n m' buffer'
 given m buffer n m' buffer' p = given_by m.coming m.ending buffer p.chosen n m' buffer' p.lawful p.result
 
 told_by : (s : Bytes) (e : End) (buffer : Bytes) (k : ℕ) (x : End) (m' : Meaning) (buffer' : Bytes)
@@ -66,7 +65,7 @@ told_by [] e (b ∷ bs) k x m' buffer' r =
     record { asked = omega arith; none = refl; is = same_end x e (ap (λ y. y.0) r); after = ap (λ y. y.1) r; kept = ap (λ y. y.2) r }
 told_by (y ∷ ys) e (b ∷ bs) k x m' buffer' r = absurd (not_gave x k (ap (λ y. y.0) r))
 
-pub told : (m : Meaning) (buffer : Bytes) (e : End) (m' : Meaning) (buffer' : Bytes) → Pulls m buffer (answer (Ended e)) m' buffer' → Told m buffer e m' buffer'
+pub told : (m : Meaning) (buffer : Bytes) (e : End) (m' : Meaning) (buffer' : Bytes) → Pulls m buffer (answer (Err e)) m' buffer' → Told m buffer e m' buffer'
 told m buffer e m' buffer' p = told_by m.coming m.ending buffer p.chosen e m' buffer' p.result
 
 -- The other way: what makes a pull lawful.
@@ -76,7 +75,7 @@ gives_by s e [] n m' buffer' h g = absurd (omega arith)
 gives_by [] e (b ∷ bs) n m' buffer' h g = absurd (let some = g.some h in let none = g.comes in omega arith)
 gives_by (x ∷ xs) e (b ∷ bs) n m' buffer' h g = let a = g.after in let f = g.filled in cc
 
-pub gives : (m : Meaning) (buffer : Bytes) (n : ℕ) (m' : Meaning) (buffer' : Bytes) → 0 < length buffer → Given m buffer n m' buffer' → Pulls m buffer (answer (Gave n)) m' buffer'
+pub gives : (m : Meaning) (buffer : Bytes) (n : ℕ) (m' : Meaning) (buffer' : Bytes) → 0 < length buffer → Given m buffer n m' buffer' → Pulls m buffer (answer (Ok n)) m' buffer'
 gives m buffer n m' buffer' h g =
     record {
       chosen = n;
@@ -90,7 +89,7 @@ tells_by s e [] m' buffer' t = absurd (let h = t.asked in omega arith)
 tells_by [] e (b ∷ bs) m' buffer' t = let a = t.after in let k = t.kept in cc
 tells_by (x ∷ xs) e (b ∷ bs) m' buffer' t = absurd (omega (arith, ap length t.none))
 
-pub tells : (m : Meaning) (buffer : Bytes) (x : End) (m' : Meaning) (buffer' : Bytes) → Told m buffer x m' buffer' → Pulls m buffer (answer (Ended x)) m' buffer'
+pub tells : (m : Meaning) (buffer : Bytes) (x : End) (m' : Meaning) (buffer' : Bytes) → Told m buffer x m' buffer' → Pulls m buffer (answer (Err x)) m' buffer'
 tells m buffer x m' buffer' t =
     let z : length m.coming ≡ 0 = ap length t.none in
     record {
@@ -101,7 +100,7 @@ tells m buffer x m' buffer' t =
           ∙ tells_by m.coming m.ending buffer m' buffer' (record { asked = t.asked; none = t.none; is = refl; after = t.after; kept = t.kept });
     }
 
-pub waits : (m : Meaning) (buffer : Bytes) → length buffer ≡ 0 → Pulls m buffer (answer (Gave 0)) m buffer
+pub waits : (m : Meaning) (buffer : Bytes) → length buffer ≡ 0 → Pulls m buffer (answer (Ok 0)) m buffer
 waits m [] z = record { chosen = 0; lawful = record { comes = omega arith; fits = omega arith; some = λ s r. absurd (omega arith) }; result = refl }
 waits m (b ∷ bs) z = absurd (omega arith)
 

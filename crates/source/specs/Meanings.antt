@@ -1,11 +1,9 @@
 -- What a source means, and what a pull owes. Assumes nothing.
-use Rattle.std.specs.Prelude.{◌≡◌, ℕ, ◌<◌, ◌≤◌, [], ◌∷◌, ◌++◌, length, take, drop}
+use Rattle.std.specs.Prelude.{◌≡◌, ℕ, ◌<◌, ◌≤◌, [], ◌∷◌, ◌++◌, length, take, drop, Ok, Err, Result}
 use Rattle.byte_lines.specs.Bytes.{Bytes, Answer}
 use Rattle.source.specs.declared.ends.Fault.{Fault}
 use Rattle.source.specs.declared.ends.End.{End}
 use Rattle.source.specs.declared.ends.End.TheVariants.{Clean, Faulty}
-use Rattle.source.specs.declared.sources.Pulled.{Pulled}
-use Rattle.source.specs.declared.sources.Pulled.TheVariants.{Gave, Ended}
 
 abbrev pub fault : (number layer place : ℕ) → Fault
 fault n l p = record { number = n; layer = l; place = p }
@@ -25,9 +23,9 @@ abbrev pub ended : End → Answer
 ended Clean = (1, [])
 ended (Faulty f) = (2, f.number ∷ (f.layer ∷ (f.place ∷ [])))
 
-abbrev pub answer : Pulled → Answer
-answer (Gave n) = gave n
-answer (Ended e) = ended e
+abbrev pub answer : Result ℕ End → Answer
+answer (Ok n) = gave n
+answer (Err e) = ended e
 
 -- the whole result of a pull that chose to give n bytes, by the bytes to come, the end and the buffer: the answer, the meaning after it, and the buffer after it
 abbrev pub pulled : ℕ → Bytes → End → Bytes → Answer × Meaning × Bytes

@@ -5,7 +5,7 @@ ghost use Rattle.source.specs.Slices.{block_meaning};
 
 use crate::ends::End;
 use crate::gives::give;
-use crate::sources::{Pulled, Source};
+use crate::sources::Source;
 
 /// All of a slice, then a clean end. Each pull gives as much as the buffer holds.
 #[derive(Drop)]
@@ -24,15 +24,15 @@ impl<'a> Block<'a> {
 impl Source for Block<'_> {
     ghost meaning = { block_meaning };
 
-    fn pull(&mut self, buffer: &mut [u8]) -> Pulled {
+    fn pull(&mut self, buffer: &mut [u8]) -> Result<usize, End> {
         if buffer.is_empty() {
-            return Pulled::Gave(0);
+            return Ok(0);
         }
         if self.rest.is_empty() {
-            return Pulled::Ended(End::Clean);
+            return Err(End::Clean);
         }
         let n = self.rest.len().min(buffer.len());
         self.rest = give(self.rest, n, buffer);
-        Pulled::Gave(n)
+        Ok(n)
     }
 }

@@ -10,4 +10,4 @@ mod sources;
 pub use block::Block;
 pub use ends::{End, Fault};
 pub use parcels::Parcels;
-pub use sources::{Pulled, Source};
+pub use sources::Source;

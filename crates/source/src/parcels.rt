@@ -7,7 +7,7 @@ ghost use Rattle.source.specs.Slices.{parcels_meaning, parcels_left, cut, portio
 
 use crate::ends::End;
 use crate::gives::give;
-use crate::sources::{Pulled, Source};
+use crate::sources::Source;
 
 /// A slice by a list of lengths, then a clean end. A pull never crosses a parcel's end.
 ///
@@ -56,21 +56,21 @@ fn parcel_at_hand(left: usize, lengths: &[u32], all: usize) -> (usize, &[u32])
 impl Source for Parcels<'_> {
     ghost meaning = { parcels_meaning };
 
-    fn pull(&mut self, buffer: &mut [u8]) -> Pulled
+    fn pull(&mut self, buffer: &mut [u8]) -> Result<usize, End>
         ensures pulls { Pulls (parcels_meaning self.old) buffer.old (answer result) (parcels_meaning self.new) buffer.new }
         ensures keeps { (answer result, parcels_left self.new) ≡ portion (length buffer.old) (parcels_left self.old) }
     {
         if buffer.is_empty() {
-            return Pulled::Gave(0);
+            return Ok(0);
         }
         if self.rest.is_empty() {
-            return Pulled::Ended(End::Clean);
+            return Err(End::Clean);
         }
         let (left, lengths) = parcel_at_hand(self.left, self.lengths, self.rest.len());
         let n = left.min(self.rest.len()).min(buffer.len());
         self.rest = give(self.rest, n, buffer);
         self.left = left - n;
         self.lengths = lengths;
-        Pulled::Gave(n)
+        Ok(n)
     }
 }
