@@ -15,8 +15,5 @@ stepped-append m a b =
     let ed = drop-drop (length b) (length a) m.unwritten in
     cc
 
-pub stepped-none : {V : Type 0} (m : Meaning V) → stepped m [] ≡ m
-stepped-none m = let same : m.space - 0 ≡ m.space = omega arith in rw same
-
 pub taken_all : {V : Type 0} (m : Meaning V) (bs : Bytes) → length bs ≤ m.space → taken m bs ≡ ((0, []), stepped m bs)
 taken_all m bs le = simp (le-leb (length bs) m.space le)
