@@ -1,7 +1,7 @@
 ghost use Rattle.byte_lines.specs.Spans.{FirstLine};
 
 /// A line at a text's start: how many bytes it has, and how many it takes with its CRLF.
-#[derive(Clone, Copy)]
+#[derive(Clone, Copy, PartialEq, Eq, Debug)]
 pub struct LineSpan {
     pub len: usize,
     pub width: usize,
@@ -11,16 +11,14 @@ pub struct LineSpan {
 pub fn first_line(text: &[u8]) -> LineSpan
     ensures { FirstLine text.now result.len result.width }
 {
-    for (i, b) in text.iter().enumerate() {
-        if *b == b'\r' && text.len() - i > 1 && text[i + 1] == b'\n' {
-            return LineSpan {
-                len: i,
-                width: i + 2,
-            };
-        }
-    }
-    LineSpan {
-        len: text.len(),
-        width: text.len(),
+    match text.windows(2).position(|pair| pair == b"\r\n".as_slice()) {
+        Some(len) => LineSpan {
+            len,
+            width: len + 2,
+        },
+        None => LineSpan {
+            len: text.len(),
+            width: text.len(),
+        },
     }
 }

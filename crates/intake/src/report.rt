@@ -3,16 +3,16 @@ ghost use Rattle.sink.specs.Values.{tally_meaning};
 ghost use Rattle.transfer.specs.Drains.{answer};
 ghost use Rattle.intake.specs.Reports.{reported};
 
-use sink::Tally;
+use sink::{Refusal, Tally};
 use source::{End, Source};
 use std::fmt;
-use transfer::{Drained, drain};
+use transfer::drain;
 
 /// What a source gave: how many bytes, their sum, and how it ended.
 #[derive(Clone, Copy)]
 pub struct Report {
     tally: Tally,
-    drained: Drained,
+    drained: Result<End, Refusal>,
 }
 
 impl Report {
@@ -32,14 +32,8 @@ impl fmt::Display for Report {
         let sum = self.tally.sum();
         write!(f, "bytes {count} sum {sum:08x} ")?;
         match self.drained {
-            Drained::Ended(End::Clean) => write!(f, "clean"),
-            Drained::Ended(End::Faulty(fault)) => {
-                let number = fault.number;
-                let layer = fault.layer;
-                let place = fault.place;
-                write!(f, "fault {number} {layer} {place}")
-            }
-            Drained::Full => write!(f, "full"),
+            Ok(end) => write!(f, "{end}"),
+            Err(Refusal::Full) => write!(f, "full"),
         }
     }
 }

@@ -1,6 +1,6 @@
 -- What a caller learns from a pull, by its answer.
 use Rattle.std.proofs.Common.{◌≡◌, ℕ, ◌<◌, ◌≤◌, [], ◌∷◌, ◌++◌, length, take, drop, Ok, Err, sym, refl, ap, ◌∙◌, arith}
-use Rattle.std.proofs.lemmas.List.{append_assoc, drop-append-le, take-append-drop}
+use Rattle.std.proofs.lemmas.List.{append_assoc, drop-append-le, length-drop, length-take-le, take-append-drop}
 use Rattle.source.specs.declared.ends.End.{End}
 use Rattle.source.specs.declared.ends.End.TheVariants.{Clean, Faulty}
 use Rattle.byte_lines.specs.Bytes.{Bytes, Answer}
@@ -22,11 +22,11 @@ pub record Told (m : Meaning) (buffer : Bytes) (e : End) (m' : Meaning) (buffer'
   pub after : m' ≡ m
   pub kept : buffer' ≡ buffer
 
-not_gave : (x : End) (n : ℕ) → ended x ≡ gave n → ⊥
+pub not_gave : (x : End) (n : ℕ) → ended x ≡ gave n → ⊥
 not_gave Clean n q = omega (arith, ap (λ a. a.0) q)
 not_gave (Faulty f) n q = omega (arith, ap (λ a. a.0) q)
 
-same_count : (n k : ℕ) → gave n ≡ gave k → n ≡ k
+pub same_count : (n k : ℕ) → gave n ≡ gave k → n ≡ k
 same_count n k q = let l = ap (λ a. a.1) q in cc
 
 same_end : (x e : End) → ended x ≡ ended e → x ≡ e
@@ -100,10 +100,6 @@ tells m buffer x m' buffer' t =
           ∙ tells_by m.coming m.ending buffer m' buffer' (record { asked = t.asked; none = t.none; is = refl; after = t.after; kept = t.kept });
     }
 
-pub waits : (m : Meaning) (buffer : Bytes) → length buffer ≡ 0 → Pulls m buffer (answer (Ok 0)) m buffer
-waits m [] z = record { chosen = 0; lawful = record { comes = omega arith; fits = omega arith; some = λ s r. absurd (omega arith) }; result = refl }
-waits m (b ∷ bs) z = absurd (omega arith)
-
 -- A pull into a buffer's front, seen from the whole buffer.
 pub front_filled : (k n : ℕ) (d buffer front : Bytes) → n ≤ length (take k buffer) → front ≡ d ++ drop n (take k buffer) → front ++ drop k buffer ≡ d ++ drop n buffer
 front_filled k n d buffer front le e =
@@ -112,3 +108,27 @@ front_filled k n d buffer front le e =
 
 pub front_kept : (k : ℕ) (buffer front : Bytes) → front ≡ take k buffer → front ++ drop k buffer ≡ buffer
 front_kept k buffer front e = ap (λ (l : Bytes). l ++ drop k buffer) e ∙ take-append-drop k buffer
+
+front_by : (s : Bytes) (e : End) (n : ℕ) (f r : Bytes) (a : Answer) (m' : Meaning) (front : Bytes) → n ≤ length f → (0 < length r → 0 < length f)
+    → ◌≡◌ {A = Answer × Meaning × Bytes} (a, m', front) (pulled n s e f) → ◌≡◌ {A = Answer × Meaning × Bytes} (a, m', front ++ r) (pulled n s e (f ++ r))
+front_by s e n [] [] a m' front le some h = ap (λ x. (x.0, x.1, x.2 ++ [])) h
+front_by s e n [] (y ∷ ys) a m' front le some h = absurd (omega (arith, some (omega arith)))
+front_by [] e n (b ∷ bs) r a m' front le some h = ap (λ x. (x.0, x.1, x.2 ++ r)) h
+front_by (x ∷ xs) e n (b ∷ bs) r a m' front le some h =
+    ap (λ x. (x.0, x.1, x.2 ++ r)) h
+    ∙ ap (λ (l : Bytes). (gave n, means (drop n (x ∷ xs)) e, l))
+    (append_assoc (take n (x ∷ xs)) (drop n (b ∷ bs)) r ∙ ap (λ (l : Bytes). take n (x ∷ xs) ++ l) (sym (drop-append-le n (b ∷ bs) r le)))
+
+pub pulls_front : (m : Meaning) (k : ℕ) (buffer : Bytes) (a : Answer) (m' : Meaning) (front : Bytes) → k ≤ length buffer → (0 < length buffer → 0 < k)
+    → Pulls m (take k buffer) a m' front → Pulls m buffer a m' (front ++ drop k buffer)
+pulls_front m k buffer a m' front long some p =
+    let l = length-take-le k buffer long in
+    let whole = take-append-drop k buffer in
+    record {
+      chosen = p.chosen;
+      lawful = record { comes = p.lawful.comes; fits = omega (arith, p.lawful.fits); some = λ s r. p.lawful.some s (omega (arith, some r)) };
+      result =
+          front_by m.coming m.ending p.chosen (take k buffer) (drop k buffer) a m' front p.lawful.fits
+          (λ h. omega (arith, length-drop k buffer, some (omega (arith, length-drop k buffer)))) p.result
+          ∙ ap (pulled p.chosen m.coming m.ending) whole;
+    }

@@ -1,10 +1,9 @@
 ghost use Rattle.std.specs.Prelude.{◌≡◌};
 ghost use Rattle.source.specs.declared.ends.End.TheVariants.{Clean};
-ghost use Rattle.source.specs.Meanings.{means};
-ghost use Rattle.source.specs.Slices.{block_meaning};
+ghost use Rattle.source.specs.Meanings.{Pulls, answer, means};
+ghost use Rattle.source.specs.Slices.{block_meaning, most};
 
 use crate::ends::End;
-use crate::gives::give;
 use crate::sources::Source;
 
 /// All of a slice, then a clean end. Each pull gives as much as the buffer holds.
@@ -24,7 +23,10 @@ impl<'a> Block<'a> {
 impl Source for Block<'_> {
     ghost meaning = { block_meaning };
 
-    fn pull(&mut self, buffer: &mut [u8]) -> Result<usize, End> {
+    fn pull(&mut self, buffer: &mut [u8]) -> Result<usize, End>
+        ensures pulls { Pulls (block_meaning self.old) buffer.old (answer result) (block_meaning self.new) buffer.new }
+        ensures gives { (answer result, block_meaning self.new, buffer.new) ≡ most (block_meaning self.old) buffer.old }
+    {
         if buffer.is_empty() {
             return Ok(0);
         }
@@ -32,7 +34,9 @@ impl Source for Block<'_> {
             return Err(End::Clean);
         }
         let n = self.rest.len().min(buffer.len());
-        self.rest = give(self.rest, n, buffer);
+        let (first, rest) = self.rest.split_at(n);
+        buffer[0..n].copy_from_slice(first);
+        self.rest = rest;
         Ok(n)
     }
 }

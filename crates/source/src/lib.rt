@@ -3,7 +3,6 @@
 
 mod block;
 mod ends;
-mod gives;
 mod parcels;
 mod sources;
 

@@ -7,7 +7,7 @@ use Rattle.source.specs.declared.ends.End.{End}
 use Rattle.source.specs.Meanings.{Meaning as Source, means, ended}
 use Rattle.source.proofs.Pulling.{Given, front_filled}
 use Rattle.sink.specs.Meanings.{Meaning as Sink, stepped, taken}
-use Rattle.sink.proofs.Folds.{stepped-append, stepped-none, taken_all}
+use Rattle.sink.proofs.Folds.{stepped-append, taken_all}
 use Rattle.transfer.specs.Drains.{drained}
 
 drained_short : {V : Type 0} (m : Source) (k : Sink V) → length m.coming < k.space → drained m k ≡ (ended m.ending, means [] m.ending, stepped k m.coming)
@@ -41,19 +41,6 @@ moved {V} s e k n comes fits =
     ∙ ap (λ (z : Sink V). ((5, []), means (drop k.space s) e, z)) both ∙ sym (drained_full (means s e) k h))
     (cases_lt (length s) k.space)
 
--- nothing is to come, and there is space
-pub at_end_lem : {V : Type 0} (m : Source) (k : Sink V) → m.coming ≡ [] → 0 < k.space → drained m k ≡ (ended m.ending, m, k)
-at_end_lem {V} m k none some =
-    let z : length m.coming ≡ 0 = ap length none in
-    drained_short m k (omega arith) ∙ ap (λ (s : Bytes). (ended m.ending, means s m.ending, stepped k m.coming)) (sym none)
-    ∙ ap (λ (s : Bytes). (ended m.ending, m, stepped k s)) none ∙ ap (λ (x : Sink V). (ended m.ending, m, x)) (stepped-none k)
-
--- there is no space
-pub at_full : {V : Type 0} (m : Source) (k : Sink V) → k.space ≡ 0 → drained m k ≡ ((5, []), m, k)
-at_full {V} m k none =
-    drained_full m k (omega arith) ∙ ap (λ (j : ℕ). ((5, []), means (drop j m.coming) m.ending, stepped k (take j m.coming))) none
-    ∙ ap (λ (x : Sink V). ((5, []), m, x)) (stepped-none k)
-
 -- a buffer's front, into which n bytes were pulled, was taken
 pub took : {V : Type 0} (m m' : Source) (x x' : Sink V) (a : Answer) (k n : ℕ) (buffer front : Bytes) → Given m (take k buffer) n m' front → k ≤ x.space → k ≤ length buffer
     → (a, x') ≡ taken x (take (n - 0) (front ++ drop k buffer)) → drained m' x' ≡ drained m x
@@ -68,11 +55,3 @@ took {V} m m' x x' a k n buffer front g space long e =
     let after : x' ≡ stepped x (take n m.coming) = ap (λ p. p.1) (e ∙ ap (taken x) bytes ∙ taken_all x (take n m.coming) fits) in
     ap (λ (y : Source). drained y x') g.after ∙ ap (drained (means (drop n m.coming) m.ending)) after
     ∙ moved m.coming m.ending x n g.comes (omega arith)
-
-pub fewer : (m m' : Source) (k n : ℕ) (buffer front : Bytes) → Given m (take k buffer) n m' front → 0 < k → k ≤ length buffer → length m'.coming < length m.coming
-fewer m m' k n buffer front g some long =
-    let lk = length-take-le k buffer long in
-    let n>0 : 0 < n = g.some (omega arith) in
-    let comes = g.comes in
-    let l : length m'.coming ≡ length m.coming - n = ap (λ x. length x.coming) g.after ∙ length-drop n m.coming in
-    omega arith

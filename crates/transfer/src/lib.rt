@@ -3,4 +3,4 @@
 
 mod drains;
 
-pub use drains::{Drained, drain};
+pub use drains::drain;

@@ -16,6 +16,7 @@ impl Sink for Tally {
         if bytes.len() > self.space() as usize {
             return Err(Refusal::Full);
         }
+        // The project's form: a take goes byte by byte, as a sink's meaning is stepped.
         for b in bytes {
             self.sum = (self.sum ^ u32::from(*b)).wrapping_mul(16_777_619);
             self.count += 1;

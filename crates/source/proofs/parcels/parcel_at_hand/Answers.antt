@@ -1,28 +1,27 @@
-use Rattle.std.proofs.Common.{◌≡◌, ℕ, ◌+◌, ◌<◌, List, ◌∷◌, length, get_or, sym, ap, ◌∙◌, arith, rules}
+use Rattle.std.proofs.Common.{◌≡◌, ℕ, ◌+◌, ◌<◌, List, ◌∷◌, length, get_or, sym, ap, ◌∙◌, arith, rules, tests}
 use Rattle.std.proofs.lemmas.List.{take_rest, drop_more, drop_all}
+use Rattle.std.proofs.lemmas.Iterator.{IsFirst-from_position, YieldsList-from_slice}
+use Rattle.std.proofs.option.Match.{if_some, if_none}
+use Rattle.std.specs.List.{AllWithin}
 use Rattle.source.specs.Slices.{cut}
-use Rattle.source.proofs.Cuts.{cut_pass, cut_all, cut-none}
+use Rattle.source.proofs.Cuts.{cut_passed, cut_all, cut-none}
 use Rattle.source.proofs.parcels.parcel_at_hand.Goals as goal
 
-pub returns-then-n-gt0 : goal.returns-then-n-gt0
-returns-then-n-gt0 c =
-    let i = c.loop-i.i in
+pub returns-in-Some-clause-same : goal.returns-in-Some-clause-same
+returns-in-Some-clause-same c =
     let ns = c.args.lengths.now in
-    let lt : i < length ns = omega arith in
+    let i = c.in-Some.i in
     let z : c.args.left ≡ 0 = omega arith in
-    record {
-      some = search rules;
-      same = λ s e. ap (λ (l : List ℕ). cut (get_or ns i 0 ∷ l) s) (take_rest ns (i + 1)) ∙ ap (λ (l : List ℕ). cut l s) (sym (drop_more ns i 0 lt)) ∙ c.loop-i.invariant s ∙ sym (cut-none c.args.left ns s z);
-    }
+    let first = if_some _ _ _ c.in-Some.is (IsFirst-from_position _ _ _ (λ n. 0 < n) (λ n. n ≡ 0) c.position.ensures.ran (YieldsList-from_slice ns c.iter.ensures.rest) (λ x q k. search (rules, tests)) (λ x q k. search (rules, tests))) in
+    λ s e.
+    ap (λ (l : List ℕ). cut (get_or ns i 0 ∷ l) s) (take_rest ns (i + 1)) ∙ ap (λ (l : List ℕ). cut l s) (sym (drop_more ns i 0 first.0))
+    ∙ sym (cut_passed ns i s (omega (arith, first.0)) first.2) ∙ sym (cut-none c.args.left ns s z)
 
-pub loop-i-preserved : goal.loop-i-preserved
-loop-i-preserved c = λ s. cut_pass c.args.lengths.now c.loop-i.i s (omega arith) (omega arith) ∙ c.loop-i.invariant s
-
-pub returns : goal.returns
-returns c =
+pub returns-in-None-clause-same : goal.returns-in-None-clause-same
+returns-in-None-clause-same c =
     let ns = c.args.lengths.now in
     let z : c.args.left ≡ 0 = omega arith in
-    record {
-      some = c.requires;
-      same = λ s e. cut_all c.args.all s e ∙ ap (λ (l : List ℕ). cut l s) (sym (drop_all c.loop-i.i ns (omega arith))) ∙ c.loop-i.invariant s ∙ sym (cut-none c.args.left ns s z);
-    }
+    let none : AllWithin (λ n. n ≡ 0) ns 0 (length ns) = if_none _ _ c.in-None.is (IsFirst-from_position _ _ _ (λ n. 0 < n) (λ n. n ≡ 0) c.position.ensures.ran (YieldsList-from_slice ns c.iter.ensures.rest) (λ x q k. search (rules, tests)) (λ x q k. search (rules, tests))) in
+    λ s e.
+    cut_all 18446744073709551615 s e ∙ ap (λ (l : List ℕ). cut l s) (sym (drop_all (length ns) ns (omega arith)))
+    ∙ sym (cut_passed ns (length ns) s (omega arith) none) ∙ sym (cut-none c.args.left ns s z)

@@ -1,6 +1,6 @@
 use Rattle.std.proofs.Common.{◌≡◌, ◌+◌, length, take, drop, fold}
 use Rattle.sink.specs.Values.{written}
-use Rattle.sink.proofs.store.StoreSink.take.Given as goal
+use Rattle.sink.proofs.store.takes.StoreSink.take.Given as goal
 
 abbrev pub invariant-loop-b : goal.invariant-loop-b
 invariant-loop-b l =
