@@ -7,14 +7,15 @@ use Rattle.std.proofs.lemmas.Slice.Eq.{bytes_eq-Decides}
 use Rattle.std.proofs.lemmas.Bool.{eq-eqb, cases_lt}
 use Rattle.byte_lines.specs.Bytes.{Bytes}
 use Rattle.byte_lines.specs.Spans.{FirstLine}
-use Rattle.message.specs.Groups.{Group, hyphens, separator, closing_line, Role, separates, closes, text, inside, role}
+use Rattle.message.specs.Groups.{Group, hyphens, separator, closing_line, Role, separates, closes, text, inside, role, fits}
 use Rattle.levels.specs.declared.levels.Level.{Level}
 use Rattle.levels.specs.declared.levels.Levels.{Levels}
+use Rattle.levels.specs.declared.levels.Fit.{Fit}
 use Rattle.levels.specs.declared.levels.Fit.TheVariants.{Separates, Closes}
 use Rattle.levels.specs.declared.levels.fits.Mark.{Mark}
 use Rattle.levels.specs.declared.levels.fits.Mark.TheVariants.{Separator, Closing}
 use Rattle.levels.specs.Opened.{group_of, groups}
-use Rattle.levels.specs.Fits.{located, fit_role, mark_of, leading}
+use Rattle.levels.specs.Fits.{located, fit_role, FitsIn, mark_of, leading}
 use Rattle.levels.proofs.LeadingLines.{leading_cons, leading-front, leading-found, leading_near}
 
 -- One group.
@@ -116,6 +117,11 @@ located_is make deeper zero (g ∷ gs) h = ([], g, gs, refl, refl)
 located_is make deeper (suc i) (g ∷ gs) h =
     let r = located_is make deeper i gs (omega arith) in
     (g ∷ r.0, r.1, r.2, ap (inside g) r.3 ∙ deeper g r.1 r.0 r.2, ap suc r.4)
+
+-- so it fits
+pub fit_fits : (gs : List Group) (f : Fit) → FitsIn (length gs) f → fits (fit_role gs f) ≡ true
+fit_fits gs (Separates i) h = ap fits (located_is (λ d g a. separates d g a) (λ g h d a. refl) i gs h).3
+fit_fits gs (Closes i) h = ap fits (located_is (λ d g a. closes d g a) (λ g h d a. refl) i gs h).3
 
 -- a line that does not begin with two hyphens is text
 pub role_other : (gs : List Group) (s : Bytes) → ((t : Bytes) → s ≡ 45 ∷ (45 ∷ t) → ⊥) → role gs s ≡ text
