@@ -1,4 +1,4 @@
-use Rattle.std.proofs.Common.{◌≡◌, min, length, drop, sym, ap, ◌∙◌, arith}
+use Rattle.std.proofs.Common.{◌≡◌, min, length, length-take, drop, sym, ap, ◌∙◌, arith}
 use Rattle.byte_lines.specs.Bytes.{Bytes}
 use Rattle.input.specs.Inputs.{meaning, shown, unseen}
 use Rattle.input.proofs.Windows.{kept-twice, shown-first}
@@ -6,7 +6,7 @@ use Rattle.message.proofs.HeadSpans.{stops-at-line}
 use Rattle.message.specs.Groups.{role, fits}
 use Rattle.levels.specs.Opened.{groups}
 use Rattle.levels.proofs.LeadingLines.{first-leading}
-use Rattle.spans.proofs.Windowed.{grows, fit_fits}
+use Rattle.levels.proofs.LineTests.{fit_fits}
 use Rattle.spans.proofs.LineFound.{line-found}
 use Rattle.spans.proofs.heads.head_line.Goals as goal
 
@@ -32,7 +32,7 @@ returns-clause-finds g c =
     let same = ap (λ m. m.left) kept.means in
     let seen : c.min-seen.result ≡ min (length (shown k)) 8194 = c.min-seen.ensures ∙ ap (λ (x : Bytes). min (length x) 8194) c.view.ensures.shows in
     let found = line-found (groups c.args.levels.now) (meaning source i).offset (meaning source i).left (shown k) (unseen source k) c.args.at c.min-seen.result
-    c.show_line-line.result.len c.show_line-line.result.width (sym same ∙ shown-first source k) c.requires.few (omega (arith, c.requires.within, grows source i k kept)) seen
+    c.show_line-line.result.len c.show_line-line.result.width (sym same ∙ shown-first source k) c.requires.few (omega (arith, c.requires.within, ap length kept.shows, length-take (length (shown i)) (shown k))) seen
     c.requires.walked (sym c.in_default.ensures.is) (rw seen c.show_line-line.ensures.line)
     (λ unended short. sym same ∙ c.show_line-line.ensures.all unended short) in
     rw c.classify.ensures found.0
