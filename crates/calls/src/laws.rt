@@ -10,14 +10,12 @@ pub(crate) trait Kinds {
 
 /// Every run keeps the law, whichever calls it holds and whatever kinds of sinks; two runs of the same calls are alike; a run can go on with any
 /// call; and without its refused calls a run is still a run.
-pub(crate) fn every_run_keeps_the_law<K: Kinds>() -> u8
+pub(crate) fn every_run_keeps_the_law<K: Kinds>()
     ensures keeps { EveryRunKeepsTheLaw K.Kinds.Index K.Kinds.kind }
     ensures alike { RunsAlike K.Kinds.Index K.Kinds.kind }
     ensures goes_on { RunsGoOn K.Kinds.Index K.Kinds.kind }
     ensures refusals { RefusalsLeaveNoTrace K.Kinds.Index K.Kinds.kind }
-{
-    0
-}
+{}
 
 /// Stores and tallies in one run.
 #[derive(Drop)]
@@ -30,11 +28,11 @@ impl Kinds for Mixed {
 }
 
 /// Runs with stores and tallies keep the law.
-pub(crate) fn mixed_runs_keep_the_law() -> u8
+pub(crate) fn mixed_runs_keep_the_law()
     ensures keeps { EveryRunKeepsTheLaw StoreOrTally value_of }
     ensures alike { RunsAlike StoreOrTally value_of }
     ensures goes_on { RunsGoOn StoreOrTally value_of }
     ensures refusals { RefusalsLeaveNoTrace StoreOrTally value_of }
 {
-    every_run_keeps_the_law::<Mixed>()
+    every_run_keeps_the_law::<Mixed>();
 }

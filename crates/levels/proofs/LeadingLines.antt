@@ -9,16 +9,24 @@ use Rattle.byte_lines.specs.Spans.{FirstLine}
 use Rattle.byte_lines.proofs.LineLaws.{Begins, first, first_begins}
 use Rattle.levels.specs.Fits.{content, leading}
 
-content-first : (ls : List Line) → content ls ≡ first ls
-content-first [] = refl
-content-first (l ∷ ls) = refl
+pub leading_is : (s : Bytes) (l : Line) (ls : List Line) → lines s ≡ l ∷ ls → leading s ≡ l.content
+unfolding leading
+leading_is s l ls e = ap content e
+
+pub first-leading : (s : Bytes) → first (lines s) ≡ leading s
+unfolding leading
+first-leading s = go (lines s)
+  where
+    go : (ls : List Line) → first ls ≡ content ls
+    go [] = refl
+    go (l ∷ ls) = refl
 
 content-onto : (b : ℕ) (ls : List Line) → content (onto b ls) ≡ b ∷ content ls
 content-onto b [] = refl
 content-onto b (l ∷ ls) = refl
 
 -- two bytes are CRLF or not
-pub cases_pair : (b c : ℕ) → ((b ≡ 13) × (c ≡ 10)) ⊎ (b ≡ 13 → c ≡ 10 → ⊥)
+cases_pair : (b c : ℕ) → ((b ≡ 13) × (c ≡ 10)) ⊎ (b ≡ 13 → c ≡ 10 → ⊥)
 cases_pair b c = elim (cases_eq b 13) [ inl p ↦ elim (cases_eq c 10) [ inl r ↦ inl (p, r) | inr r ↦ inr (λ _. r) ] | inr p ↦ inr (λ y _. p y) ]
 
 no_pair : (b c : ℕ) → (b ≡ 13 → c ≡ 10 → ⊥) → (eqb c 10 && eqb b 13) ≡ false
@@ -57,7 +65,7 @@ leading_cons b s h = ap content (lines_cons b s h) ∙ content-onto b (lines s)
 -- a text begins with its first line
 pub leading-front : (s : Bytes) → Begins (leading s) s
 unfolding leading
-leading-front s = let f = first_begins s in (f.0, ap (λ (z : Bytes). z ++ f.0) (content-first (lines s)) ∙ f.1)
+leading-front s = let f = first_begins s in (f.0, ap (λ (z : Bytes). z ++ f.0) (sym (first-leading s)) ∙ f.1)
 
 -- as `first_line` finds it
 pub leading-found : (s : Bytes) (len width : ℕ) → FirstLine s len width → leading s ≡ take len s

@@ -1,3 +1,3 @@
-pub mod Stacks
 pub mod LeadingLines
 pub mod LineTests
+pub mod Stacks

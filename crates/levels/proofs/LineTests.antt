@@ -1,26 +1,27 @@
 -- A line against the open groups.
-use Rattle.std.proofs.Common.{◌≡◌, ℕ, zero, suc, ◌+◌, ◌-◌, ◌<◌, ◌≤◌, min, Bool, true, false, cond, ◌⊎◌, List, [], ◌∷◌, ◌++◌, length, get_or, take, drop, sym, refl, ap, ◌∙◌, inl, inr, append-nil, add-one, arith, length-append, length-take}
+use Rattle.std.proofs.Common.{◌≡◌, ℕ, zero, suc, ◌+◌, ◌<◌, ◌≤◌, min, Bool, true, false, cond, ◌⊎◌, List, [], ◌∷◌, ◌++◌, length, map, reverse, take, drop, Some, None, Option, sym, refl, ap, ◌∙◌, inl, inr, append-nil, add-one, arith, length-append, length-take}
 use lib.Seq.{take-append-le}
 use Rattle.std.specs.Str.{bytes_eq}
 use Rattle.std.proofs.lemmas.List.{take_all, drop_all}
 use Rattle.std.proofs.lemmas.Slice.Eq.{bytes_eq-Decides}
-use Rattle.std.proofs.lemmas.Bool.{eq-eqb, cases_Bool, cases_lt}
+use Rattle.std.proofs.lemmas.Bool.{eq-eqb, cases_lt}
 use Rattle.byte_lines.specs.Bytes.{Bytes}
 use Rattle.byte_lines.specs.Spans.{FirstLine}
-use Rattle.message.specs.Groups.{Group, hyphens, separator, closing_line, Role, separates, closes, text, inside, role}
+use Rattle.message.specs.Groups.{Group, hyphens, separator, closing_line, Role, separates, closes, text, inside, role, fits}
 use Rattle.levels.specs.declared.levels.Level.{Level}
 use Rattle.levels.specs.declared.levels.Levels.{Levels}
+use Rattle.levels.specs.declared.levels.Fit.{Fit}
 use Rattle.levels.specs.declared.levels.Fit.TheVariants.{Separates, Closes}
 use Rattle.levels.specs.declared.levels.fits.Mark.{Mark}
-use Rattle.levels.specs.declared.levels.fits.Mark.TheVariants.{Separator, Closing, Text as NoMark}
-use Rattle.levels.specs.Opened.{group_of, none, stack, groups}
-use Rattle.levels.specs.Fits.{located, role_by, mark_of, leading}
+use Rattle.levels.specs.declared.levels.fits.Mark.TheVariants.{Separator, Closing}
+use Rattle.levels.specs.Opened.{group_of, groups}
+use Rattle.levels.specs.Fits.{located, fit_role, FitsIn, mark_of, leading}
 use Rattle.levels.proofs.LeadingLines.{leading_cons, leading-front, leading-found, leading_near}
 
 -- One group.
 
 not_same : (xs ys : Bytes) → (xs ≡ ys → ⊥) → bytes_eq xs ys ≡ false
-not_same xs ys h = elim (cases_Bool (bytes_eq xs ys)) [ inl t ↦ absurd (h ((bytes_eq-Decides xs ys).0 t)) | inr f ↦ f ]
+not_same xs ys h = grind (arith, bytes_eq-Decides)
 
 same_tail : (b s t : Bytes) → bytes_eq (b ++ s) (b ++ t) ≡ bytes_eq s t
 same_tail [] s t = refl
@@ -29,13 +30,13 @@ same_tail (x ∷ b) s t = rw (eq-eqb x x refl) (same_tail b s t)
 pub mark_tail : (b s t : Bytes) → s ≡ b ++ t → mark_of b s ≡ mark_of [] t
 mark_tail b s t e =
     ap (mark_of b) e
-    ∙ ap (λ (q : Bool). cond q Separator (cond (bytes_eq (b ++ hyphens) (b ++ t)) Closing NoMark)) (ap (λ (y : Bytes). bytes_eq y (b ++ t)) (sym (append-nil b)) ∙ same_tail b [] t)
-    ∙ ap (λ (q : Bool). cond (bytes_eq [] t) Separator (cond q Closing NoMark)) (same_tail b hyphens t)
+    ∙ ap (λ (q : Bool). cond q (Some Separator) (cond (bytes_eq (b ++ hyphens) (b ++ t)) (Some Closing) None)) (ap (λ (y : Bytes). bytes_eq y (b ++ t)) (sym (append-nil b)) ∙ same_tail b [] t)
+    ∙ ap (λ (q : Bool). cond (bytes_eq [] t) (Some Separator) (cond q (Some Closing) None)) (same_tail b hyphens t)
 
-pub mark_none : (b s : Bytes) → ((t : Bytes) → s ≡ b ++ t → ⊥) → mark_of b s ≡ NoMark
+pub mark_none : (b s : Bytes) → ((t : Bytes) → s ≡ b ++ t → ⊥) → mark_of b s ≡ None
 mark_none b s h =
-    ap (λ (q : Bool). cond q Separator (cond (bytes_eq (b ++ hyphens) s) Closing NoMark)) (not_same b s (λ e. h [] (sym e ∙ sym (append-nil b))))
-    ∙ ap (λ (q : Bool). cond q Closing NoMark) (not_same (b ++ hyphens) s (λ e. h hyphens (sym e)))
+    ap (λ (q : Bool). cond q (Some Separator) (cond (bytes_eq (b ++ hyphens) s) (Some Closing) None)) (not_same b s (λ e. h [] (sym e ∙ sym (append-nil b))))
+    ∙ ap (λ (q : Bool). cond q (Some Closing) None) (not_same (b ++ hyphens) s (λ e. h hyphens (sym e)))
 
 -- All groups.
 
@@ -59,13 +60,13 @@ deepened_next (suc i) [] g around f e = absurd (omega (arith, ap length e))
 deepened_next (suc i) (h ∷ gs) g around f e = ap (inside h) (deepened_next i gs g around f e)
 
 -- the role of a line that is to the group g as m says, with that role in the groups around it
-abbrev by_mark : Mark → Group → List Group → Role → Role
-by_mark Separator g gs f = separates [] g gs
-by_mark Closing g gs f = closes [] g gs
-by_mark NoMark g gs f = inside g f
+abbrev by_mark : Option Mark → Group → List Group → Role → Role
+by_mark (Some Separator) g gs f = separates [] g gs
+by_mark (Some Closing) g gs f = closes [] g gs
+by_mark None g gs f = inside g f
 
 choose : (p q : Bool) (g : Group) (gs : List Group) (f : Role)
-    → elim p [ true ↦ separates [] g gs | false ↦ elim q [ true ↦ closes [] g gs | false ↦ inside g f ] ] ≡ by_mark (cond p Separator (cond q Closing NoMark)) g gs f
+    → elim p [ true ↦ separates [] g gs | false ↦ elim q [ true ↦ closes [] g gs | false ↦ inside g f ] ] ≡ by_mark (cond p (Some Separator) (cond q (Some Closing) None)) g gs f
 choose true q g gs f = refl
 choose false true g gs f = refl
 choose false false g gs f = refl
@@ -79,24 +80,24 @@ abbrev pub Passed : List Group → Bytes → ℕ → Type 0
 Passed gs s i = deepened i gs (role (drop i gs) (45 ∷ (45 ∷ s))) ≡ role gs (45 ∷ (45 ∷ s))
 
 module _ (gs : List Group) (s : Bytes) (i : ℕ) (g : Group) (at : drop i gs ≡ g ∷ drop (suc i) gs) (passed : Passed gs s i) where
-  step_by : (m : Mark) → m ≡ mark_of g.boundary s → deepened i gs (by_mark m g (drop (suc i) gs) (role (drop (suc i) gs) (45 ∷ (45 ∷ s)))) ≡ role gs (45 ∷ (45 ∷ s))
+  step_by : (m : Option Mark) → m ≡ mark_of g.boundary s → deepened i gs (by_mark m g (drop (suc i) gs) (role (drop (suc i) gs) (45 ∷ (45 ∷ s)))) ≡ role gs (45 ∷ (45 ∷ s))
   step_by m e =
-      ap (λ (x : Mark). deepened i gs (by_mark x g (drop (suc i) gs) (role (drop (suc i) gs) (45 ∷ (45 ∷ s))))) e
+      ap (λ (x : Option Mark). deepened i gs (by_mark x g (drop (suc i) gs) (role (drop (suc i) gs) (45 ∷ (45 ∷ s))))) e
       ∙ ap (deepened i gs) (sym (role-step g (drop (suc i) gs) s))
       ∙ ap (λ (hs : List Group). deepened i gs (role hs (45 ∷ (45 ∷ s)))) (sym at)
       ∙ passed
 
-  pub fits-separator : Separator ≡ mark_of g.boundary s → role_by gs (Separates i) ≡ role gs (45 ∷ (45 ∷ s))
-  fits-separator e = sym (deepened-located (λ d h a. separates d h a) i gs g (drop (suc i) gs) at) ∙ step_by Separator e
+  pub fits-separator : Some Separator ≡ mark_of g.boundary s → fit_role gs (Separates i) ≡ role gs (45 ∷ (45 ∷ s))
+  fits-separator e = sym (deepened-located (λ d h a. separates d h a) i gs g (drop (suc i) gs) at) ∙ step_by (Some Separator) e
 
-  pub fits-closing : Closing ≡ mark_of g.boundary s → role_by gs (Closes i) ≡ role gs (45 ∷ (45 ∷ s))
-  fits-closing e = sym (deepened-located (λ d h a. closes d h a) i gs g (drop (suc i) gs) at) ∙ step_by Closing e
+  pub fits-closing : Some Closing ≡ mark_of g.boundary s → fit_role gs (Closes i) ≡ role gs (45 ∷ (45 ∷ s))
+  fits-closing e = sym (deepened-located (λ d h a. closes d h a) i gs g (drop (suc i) gs) at) ∙ step_by (Some Closing) e
 
-  pub passes_on : NoMark ≡ mark_of g.boundary s → Passed gs s (i + 1)
+  pub passes_on : None ≡ mark_of g.boundary s → Passed gs s (i + 1)
   passes_on e =
       ap (λ (k : ℕ). deepened k gs (role (drop k gs) (45 ∷ (45 ∷ s)))) (add-one i)
       ∙ deepened_next i gs g (drop (suc i) gs) (role (drop (suc i) gs) (45 ∷ (45 ∷ s))) at
-      ∙ step_by NoMark e
+      ∙ step_by None e
 
 deepened_text : (i : ℕ) (gs : List Group) → deepened i gs text ≡ text
 deepened_text zero gs = refl
@@ -117,6 +118,11 @@ located_is make deeper (suc i) (g ∷ gs) h =
     let r = located_is make deeper i gs (omega arith) in
     (g ∷ r.0, r.1, r.2, ap (inside g) r.3 ∙ deeper g r.1 r.0 r.2, ap suc r.4)
 
+-- so it fits
+pub fit_fits : (gs : List Group) (f : Fit) → FitsIn (length gs) f → fits (fit_role gs f) ≡ true
+fit_fits gs (Separates i) h = ap fits (located_is (λ d g a. separates d g a) (λ g h d a. refl) i gs h).3
+fit_fits gs (Closes i) h = ap fits (located_is (λ d g a. closes d g a) (λ g h d a. refl) i gs h).3
+
 -- a line that does not begin with two hyphens is text
 pub role_other : (gs : List Group) (s : Bytes) → ((t : Bytes) → s ≡ 45 ∷ (45 ∷ t) → ⊥) → role gs s ≡ text
 unfolding role
@@ -124,26 +130,25 @@ role_other [] s h = refl
 role_other (g ∷ gs) s h = rw (not_same (separator g) s (λ e. h _ (sym e)), not_same (closing_line g) s (λ e. h _ (sym e)), role_other gs s h)
 
 -- and so is one that is longer than any line of a group
-role_long : (ls : List Level) (n : ℕ) (s : Bytes) → 74 < length s → role (stack ls n) s ≡ text
+role_long : (ls : List Level) (s : Bytes) → 74 < length s → role (map group_of ls) s ≡ text
 unfolding role
-role_long ls zero s h = refl
-role_long ls (suc n) s h =
-    let g : Group = group_of (get_or ls n none) in
-    let short : length g.boundary ≤ 70 = simp length-take (omega (arith, (get_or ls n none).boundary.fits)) in
+role_long [] s h = refl
+role_long (l ∷ ls) s h =
+    let g : Group = group_of l in
+    let short : length g.boundary ≤ 70 = simp length-take (omega (arith, l.boundary.fits)) in
     rw (
       not_same (separator g) s (λ e. omega (arith, ap length e)),
       not_same (closing_line g) s (λ e. omega (arith, ap length e, length-append g.boundary hyphens)),
-      role_long ls n s h,
+      role_long ls s h,
     )
 
 pub long_text : (ls : Levels) (s : Bytes) → 74 < length s → role (groups ls) s ≡ text
 unfolding groups
-long_text ls s h = role_long ls.slots ls.count s h
+long_text ls s h = role_long (reverse (take ls.count ls.slots)) s h
 
 -- What a view decides.
 module _ (ls : Levels) (v q : Bytes) (all : length v < 76 → q ≡ []) where
   near_by : (n : ℕ) → n ≡ min (length v) 76 → (length v < 76) ⊎ (76 ≤ length v) → role (groups ls) (leading (take n v)) ≡ role (groups ls) (leading (v ++ q))
-  unfolding groups
   near_by n e (inl h) =
       ap (λ (z : Bytes). role (groups ls) (leading z)) (take_all n v (omega arith) ∙ sym (append-nil v) ∙ ap (λ (z : Bytes). v ++ z) (sym (all h)))
   near_by n e (inr h) =
@@ -151,8 +156,8 @@ module _ (ls : Levels) (v q : Bytes) (all : length v < 76 → q ≡ []) where
       elim (leading_near 76 (v ++ q)) [
         | inl k ↦ ap (λ (z : Bytes). role (groups ls) (leading z)) (sym same) ∙ ap (role (groups ls)) k
         | inr k ↦
-            role_long ls.slots ls.count (leading (take n v)) (omega (arith, k.0, ap (λ (z : Bytes). length (leading z)) same))
-            ∙ sym (role_long ls.slots ls.count (leading (v ++ q)) (omega (arith, k.1)))
+            long_text ls (leading (take n v)) (omega (arith, k.0, ap (λ (z : Bytes). length (leading z)) same))
+            ∙ sym (long_text ls (leading (v ++ q)) (omega (arith, k.1)))
       ]
 
   pub near_decides : (n : ℕ) → n ≡ min (length v) 76 → role (groups ls) (leading (take n v)) ≡ role (groups ls) (leading (v ++ q))
@@ -169,9 +174,3 @@ pub leading-after : (s t : Bytes) (len width : ℕ) → s ≡ 45 ∷ (45 ∷ t) 
 leading-after s t len width e f =
     ap (λ (z : Bytes). 45 ∷ (45 ∷ z)) (sym (leading-found t len width f))
     ∙ sym (ap leading e ∙ leading_cons 45 (45 ∷ t) (λ z. omega arith) ∙ ap (λ (z : Bytes). 45 ∷ z) (leading_cons 45 t (λ z. omega arith)))
-
-pub two-hyphens : (s : Bytes) → 1 < length s → get_or s 0 0 ≡ 45 → get_or s 1 0 ≡ 45 → s ≡ 45 ∷ (45 ∷ take (length s - 2) (drop 2 s))
-two-hyphens [] h a b = absurd (omega arith)
-two-hyphens (x ∷ []) h a b = absurd (omega arith)
-two-hyphens (x ∷ y ∷ v) h a b =
-    ap (λ (n : ℕ). n ∷ (y ∷ v)) a ∙ ap (λ (n : ℕ). 45 ∷ (n ∷ v)) b ∙ ap (λ (z : Bytes). 45 ∷ (45 ∷ z)) (sym (take_all (length (x ∷ y ∷ v) - 2) v (omega arith)))

@@ -1,6 +1,5 @@
 -- The open groups that levels stand for. Assumes nothing.
-use Rattle.std.specs.Prelude.{ℕ, zero, suc, Bool, true, false, List, [], ◌∷◌, length, replicate, Some, None, Option, nat_lt, slice_index_or, refl}
-use Rattle.std.proofs.Common.{lit≤}
+use Rattle.std.specs.Prelude.{ℕ, Bool, true, false, List, [], ◌∷◌, length, map, reverse, take, Some, None, Option, nat_lt}
 use Rattle.head.specs.BoundaryBytes.{boundary_bytes}
 use Rattle.message.specs.Groups.{Group}
 use Rattle.levels.specs.declared.levels.Level.{Level}
@@ -10,18 +9,9 @@ use Rattle.levels.specs.declared.levels.Levels.{Levels}
 abbrev pub group_of : Level → Group
 group_of l = record { number = l.number; boundary = boundary_bytes l.boundary }
 
--- a level of no group
-abbrev pub none : Level
-none = record { number = 0; boundary = record { bytes = replicate 70 0; len = 0; sized = refl; fits = lit≤ tt } }
-
--- the first n levels as groups, the innermost first
-abbrev pub stack : List Level → ℕ → List Group
-stack ls zero = []
-stack ls (suc n) = group_of (slice_index_or ls n none) ∷ stack ls n
-
 -- the open groups, the innermost first
 unfoldable pub groups : Levels → List Group
-groups ls = stack ls.slots ls.count
+groups ls = map group_of (reverse (take ls.count ls.slots))
 
 -- whether a group was opened inside the others, and the groups after it: at most eight are open
 abbrev pub pushed : Group → List Group → Bool × List Group

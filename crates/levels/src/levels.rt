@@ -19,6 +19,7 @@ struct Level {
 }
 
 /// The open groups, the innermost last.
+// a buffer with its count: the type is Copy, which the kit's ArrayVec is not, and has no heap
 #[derive(Clone, Copy)]
 pub struct Levels {
     slots: [Level; DEPTH],
@@ -27,10 +28,13 @@ pub struct Levels {
     ghost within: { count ≤ 8 },
 }
 
-/// What a line is to the open groups. The number counts the groups open inside the one that the line fits.
+/// Eight groups are open already.
+#[derive(Clone, Copy, PartialEq, Eq, Debug)]
+pub struct TooDeep;
+
+/// What a line of an open group does. The number counts the groups open inside that group.
 #[derive(Clone, Copy, PartialEq, Eq, Debug)]
 pub enum Fit {
     Separates(usize),
     Closes(usize),
-    Text,
 }

@@ -3,4 +3,4 @@
 
 mod levels;
 
-pub use levels::{Fit, Levels, NEAR};
+pub use levels::{Fit, Levels, NEAR, TooDeep};

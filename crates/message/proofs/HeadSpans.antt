@@ -17,7 +17,7 @@ use Rattle.message.specs.HeadWalks.{behind, Walked, WholeLine, Fails}
 use Rattle.message.proofs.HeadLines.{head-fits, head-empty, head_more}
 use Rattle.message.proofs.Stretching.{length-line}
 
-abbrev line : Bytes → Bool → Line
+abbrev pub line : Bytes → Bool → Line
 line s t = record { content = s; ended = t }
 
 behind-line : (ls : List Line) (l : Line) (h : Head) → behind ls (and_line l h) ≡ behind (ls ++ (l ∷ [])) h

@@ -1,2 +1,1 @@
-pub mod Windowed
 pub mod LineFound

@@ -1,44 +1,24 @@
 -- What one line of a window says of the head.
-use Rattle.std.proofs.Common.{◌≡◌, ℕ, ◌+◌, ◌-◌, ◌<◌, ◌≤◌, min, Bool, true, false, cond, eqb, ltb, leb, List, [], ◌∷◌, ◌++◌, length, take, drop, sym, refl, ap, ◌∙◌, subst, inl, inr, arith, length-append}
+use Rattle.std.proofs.Common.{◌≡◌, ℕ, ◌+◌, ◌-◌, ◌<◌, ◌≤◌, min, Bool, true, false, cond, eqb, ltb, leb, List, [], ◌∷◌, ◌++◌, length, take, drop, ControlFlow, Continue, Break, sym, refl, ap, ◌∙◌, subst, inl, inr, arith, length-append}
 use Rattle.std.proofs.lemmas.List.{drop-append-le, take-append-le, take-take, take_all, length-drop, length-take-le}
 use Rattle.std.proofs.lemmas.Bool.{cases_Bool, cases_lt, ltb-true, ltb-false, eqb-true, eqb-false, leb-true, leb-false, le-ltb}
 use Rattle.byte_lines.specs.Bytes.{Bytes}
 use Rattle.byte_lines.specs.Lines.{Line, lines}
 use Rattle.byte_lines.specs.Spans.{FirstLine}
-use Rattle.byte_lines.specs.declared.lines.LineSpan.{LineSpan}
 use Rattle.head.specs.Media.{absent}
 use Rattle.message.specs.Groups.{Group, role, text, fits}
 use Rattle.message.specs.HeadWalks.{Walked, WholeLine}
-use Rattle.message.proofs.HeadSpans.{whole-first, whole-alone, walked_line, stops-at-empty, stops-at-end, stops-in-line, long_line, long_some, open_last, head-over}
-use Rattle.byte_lines.proofs.LineLaws.{first}
+use Rattle.message.proofs.HeadSpans.{line, whole-first, whole-alone, walked_line, stops-at-empty, stops-at-end, stops-in-line, long_line, long_some, open_last, head-over}
 use Rattle.byte_lines.proofs.LineFronts.{first-stays}
-use Rattle.levels.specs.Fits.{leading, content}
+use Rattle.levels.specs.Fits.{leading}
+use Rattle.levels.proofs.LeadingLines.{leading_is}
 use Rattle.spans.specs.declared.heads.HeadEnd.TheVariants.{Empty, End, Long}
-use Rattle.spans.specs.declared.heads.HeadLine.{HeadLine}
-use Rattle.spans.specs.declared.heads.HeadLine.TheVariants.{Goes, Ends as Stops}
-use Rattle.spans.specs.Found.{FindsBy, LineFinds, line_width, line_in_depth, Ends}
-
-abbrev line : Bytes → Bool → Line
-line s t = record { content = s; ended = t }
+use Rattle.spans.specs.declared.heads.HeadSpan.{HeadSpan}
+use Rattle.spans.specs.Found.{FindsBy, LineFinds, line_width, Ends}
 
 absent_some : (s : Bytes) → 0 < length s → absent s ≡ false
 absent_some [] h = absurd (omega arith)
 absent_some (b ∷ bs) h = refl
-
-leading_is : (t : Bytes) (l : Line) (r : List Line) → lines t ≡ l ∷ r → leading t ≡ l.content
-unfolding leading
-leading_is t l r e = ap content e
-
-pub leading-first : (t : Bytes) → first (lines t) ≡ leading t
-unfolding leading
-leading-first t = go (lines t)
-  where
-    go : (ls : List Line) → first ls ≡ content ls
-    go [] = refl
-    go (l ∷ ls) = refl
-
-first_is : (t : Bytes) (l : Line) (r : List Line) → lines t ≡ l ∷ r → first (lines t) ≡ l.content
-first_is t l r e = ap first e
 
 -- the window shows v of the text s, of which the first k bytes are whole lines of the head; its first `seen` bytes were looked at for the line behind these
 module _ (gs : List Group) (at : ℕ) (s v u : Bytes) (k seen len wide : ℕ)
@@ -94,10 +74,10 @@ module _ (gs : List Group) (at : ℕ) (s v u : Bytes) (k seen len wide : ℕ)
             ∙ ap (λ (x : Bytes). line x true ∷ lines q) (front len (omega (arith, f.within, size)));
       }
 
-  abbrev Found : ℕ → HeadLine → Type 0
+  abbrev Found : ℕ → ControlFlow HeadSpan ℕ → Type 0
   Found n r = LineFinds gs at s k r × (line_width r ≤ n)
 
-  at_end_lem : len ≡ wide → seen < 8194 → Found (length v) (Stops (record { len = seen; end = End }))
+  at_end_lem : len ≡ wide → seen < 8194 → Found (length v) (Break (record { len = seen; end = End }))
   at_end_lem h lt =
       let same : s ≡ v = all (omega arith) (omega arith) in
       let long : seen ≡ length s = omega (arith, ap length same) in (
@@ -114,22 +94,22 @@ module _ (gs : List Group) (at : ℕ) (s v u : Bytes) (k seen len wide : ℕ)
         omega arith,
       )
 
-  too_long : len ≡ wide → 8194 ≤ seen → Found (length v) (Stops (record { len = seen; end = Long }))
+  too_long : len ≡ wide → 8194 ≤ seen → Found (length v) (Break (record { len = seen; end = Long }))
   too_long h le =
       let m : ℕ = seen - k in
       let one = opened h (omega arith) in
       let l = long_line rest m (omega arith) (omega (arith, length-drop k s, total)) one in
       let some = long_some rest m (omega arith) (omega (arith, length-drop k s, total)) one in
       let over = head-over gs at s k m l.0 (line (take m rest) false) l.1 w l.2 (unfit l.0 l.1 l.2)
-      (ap absent (sym (first_is rest l.0 l.1 l.2)) ∙ some) (omega (arith, l.3)) one
+      (rw l.2 at some) (omega (arith, l.3)) one
       (omega (arith, length-take-le m rest (omega (arith, length-drop k s, total)))) in
       let sum : k + m ≡ seen = omega arith in
       (subst (λ (n : ℕ). FindsBy gs at s n Long) sum over, omega arith)
 
-  at-empty : (len ≡ wide → ⊥) → len ≡ 0 → Found (length v) (Stops (record { len = k; end = Empty }))
+  at-empty : (len ≡ wide → ⊥) → len ≡ 0 → Found (length v) (Break (record { len = k; end = Empty }))
   at-empty h z = (stops-at-empty gs at s k w (subst (WholeLine s k) z (whole h)), omega (arith, wider h, f.within, size))
 
-  behind-line : (len ≡ wide → ⊥) → (len ≡ 0 → ⊥) → k + wide ≤ 8192 → Found (length v) (Goes (k + wide))
+  behind-line : (len ≡ wide → ⊥) → (len ≡ 0 → ⊥) → k + wide ≤ 8192 → Found (length v) (Continue (k + wide))
   behind-line h z le =
       let l = whole h in
       let two = wider h in (
@@ -142,7 +122,7 @@ module _ (gs : List Group) (at : ℕ) (s v u : Bytes) (k seen len wide : ℕ)
         omega (arith, f.within, size),
       )
 
-  over-line : (len ≡ wide → ⊥) → (len ≡ 0 → ⊥) → 8192 < k + wide → Found (length v) (Stops (record { len = k + wide; end = Long }))
+  over-line : (len ≡ wide → ⊥) → (len ≡ 0 → ⊥) → 8192 < k + wide → Found (length v) (Break (record { len = k + wide; end = Long }))
   over-line h z lt =
       let l = whole h in
       let two = wider h in
@@ -160,10 +140,10 @@ module _ (gs : List Group) (at : ℕ) (s v u : Bytes) (k seen len wide : ℕ)
     where
       go : (a : Bool) → eqb len wide ≡ a → (b : Bool) → ltb seen 8194 ≡ b → (c : Bool) → eqb len 0 ≡ c → (d : Bool) → leb (k + wide) 8192 ≡ d
           → Found (length v) (elim a [
-            | true ↦ elim b [ true ↦ Stops (record { len = seen; end = End }) | false ↦ Stops (record { len = seen; end = Long }) ]
+            | true ↦ elim b [ true ↦ Break (record { len = seen; end = End }) | false ↦ Break (record { len = seen; end = Long }) ]
             | false ↦ elim c [
-              | true ↦ Stops (record { len = k; end = Empty })
-              | false ↦ elim d [ true ↦ Goes (k + wide) | false ↦ Stops (record { len = k + wide; end = Long }) ]
+              | true ↦ Break (record { len = k; end = Empty })
+              | false ↦ elim d [ true ↦ Continue (k + wide) | false ↦ Break (record { len = k + wide; end = Long }) ]
             ]
           ])
       go true p true q c r d t = at_end_lem (eqb-true len wide p) (ltb-true seen 8194 q)
@@ -171,20 +151,3 @@ module _ (gs : List Group) (at : ℕ) (s v u : Bytes) (k seen len wide : ℕ)
       go false p b q true r d t = at-empty (eqb-false len wide p) (eqb-true len 0 r)
       go false p b q false r true t = behind-line (eqb-false len wide p) (eqb-false len 0 r) (leb-true (k + wide) 8192 t)
       go false p b q false r false t = over-line (eqb-false len wide p) (eqb-false len 0 r) (leb-false (k + wide) 8192 t)
-
--- such a line is of no group
-pub ends_depth : (n k seen : ℕ) (l : LineSpan) → line_in_depth n (Ends k seen l)
-ends_depth n k seen l = go (eqb l.len l.width) (ltb seen 8194) (eqb l.len 0) (leb (k + l.width) 8192)
-  where
-    go : (a b c d : Bool) → line_in_depth n (elim a [
-      | true ↦ elim b [ true ↦ Stops (record { len = seen; end = End }) | false ↦ Stops (record { len = seen; end = Long }) ]
-      | false ↦ elim c [
-        | true ↦ Stops (record { len = k; end = Empty })
-        | false ↦ elim d [ true ↦ Goes (k + l.width) | false ↦ Stops (record { len = k + l.width; end = Long }) ]
-      ]
-    ])
-    go true true c d = tt
-    go true false c d = tt
-    go false b true d = tt
-    go false b false true = tt
-    go false b false false = tt

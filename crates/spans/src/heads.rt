@@ -11,6 +11,7 @@ use byte_lines::{LineSpan, first_line};
 use input::Input;
 use levels::{Fit, Levels, NEAR};
 use source::Source;
+use std::ops::ControlFlow;
 
 /// How many bytes a head may have.
 const MOST: usize = 8192;
@@ -38,13 +39,6 @@ pub struct HeadSpan {
     pub end: HeadEnd,
 }
 
-/// A line of a head: it goes on behind that many bytes, or ends.
-#[derive(Clone, Copy)]
-enum HeadLine {
-    Goes(usize),
-    Ends(HeadSpan),
-}
-
 /// Finds the head that begins where the input stands. It is shown then, with the empty line if one ends it.
 pub fn find_head<S: Source>(input: &mut Input<S>, levels: &Levels) -> HeadSpan
     ensures keeps { Kept S.Source.meaning input.old input.new }
@@ -55,14 +49,19 @@ pub fn find_head<S: Source>(input: &mut Input<S>, levels: &Levels) -> HeadSpan
     let mut at = 0;
     loop {
         match head_line(input, levels, at) {
-            HeadLine::Goes(to) => at = to,
-            HeadLine::Ends(span) => return span,
+            ControlFlow::Continue(to) => at = to,
+            ControlFlow::Break(span) => return span,
         }
     }
 }
 
-/// Looks at the line behind the first `at` bytes of a head.
-fn head_line<S: Source>(input: &mut Input<S>, levels: &Levels, at: usize) -> HeadLine
+// no struct of input, levels and place: its methods would promise that they keep the levels, the place and the lent input, which is more than the two facts
+/// Looks at the line behind the first `at` bytes of a head. The head goes on behind so many bytes, or ends.
+fn head_line<S: Source>(
+    input: &mut Input<S>,
+    levels: &Levels,
+    at: usize,
+) -> ControlFlow<HeadSpan, usize>
     requires few { at ≤ 8192 }
     requires within { at ≤ length (shown input.old) }
     requires walked { Walked (groups levels.now) (meaning S.Source.meaning input.old).offset (meaning S.Source.meaning input.old).left at }
@@ -71,21 +70,19 @@ fn head_line<S: Source>(input: &mut Input<S>, levels: &Levels, at: usize) -> Hea
     ensures depth { line_in_depth (length (groups levels.now)) result }
     ensures finds { LineFinds (groups levels.now) (meaning S.Source.meaning input.old).offset (meaning S.Source.meaning input.old).left at result }
 {
-    match fit_at(input, levels, at) {
-        Fit::Text => {
-            let line = show_line(input, at);
-            let seen = input.view().len().min(SEEN);
-            classify(at, seen, line)
-        }
-        fit => HeadLine::Ends(HeadSpan {
+    if let Some(fit) = fit_at(input, levels, at) {
+        return ControlFlow::Break(HeadSpan {
             len: at,
             end: HeadEnd::Line(fit),
-        }),
+        });
     }
+    let line = show_line(input, at);
+    let seen = input.view().len().min(SEEN);
+    classify(at, seen, line)
 }
 
 /// What the line behind the first `at` bytes is to the open groups.
-fn fit_at<S: Source>(input: &mut Input<S>, levels: &Levels, at: usize) -> Fit
+fn fit_at<S: Source>(input: &mut Input<S>, levels: &Levels, at: usize) -> Option<Fit>
     requires few { at ≤ 8192 }
     requires within { at ≤ length (shown input.old) }
     ensures keeps { Kept S.Source.meaning input.old input.new }
@@ -118,30 +115,24 @@ fn show_line<S: Source>(input: &mut Input<S>, at: usize) -> LineSpan
 }
 
 /// What a line behind `at` bytes is to the head, where it is no line of a group, and the first `seen` bytes were looked at.
-fn classify(at: usize, seen: usize, line: LineSpan) -> HeadLine
+fn classify(at: usize, seen: usize, line: LineSpan) -> ControlFlow<HeadSpan, usize>
     requires within { at + line.width ≤ 8194 }
     ensures { result ≡ Ends at seen line }
 {
     let LineSpan { len, width } = line;
-    if len == width {
+    let (len, end) = if len == width {
         let end = if seen < SEEN {
             HeadEnd::End
         } else {
             HeadEnd::Long
         };
-        return HeadLine::Ends(HeadSpan { len: seen, end });
-    }
-    if len == 0 {
-        return HeadLine::Ends(HeadSpan {
-            len: at,
-            end: HeadEnd::Empty,
-        });
-    }
-    if at + width <= MOST {
-        return HeadLine::Goes(at + width);
-    }
-    HeadLine::Ends(HeadSpan {
-        len: at + width,
-        end: HeadEnd::Long,
-    })
+        (seen, end)
+    } else if len == 0 {
+        (at, HeadEnd::Empty)
+    } else if at + width <= MOST {
+        return ControlFlow::Continue(at + width);
+    } else {
+        (at + width, HeadEnd::Long)
+    };
+    ControlFlow::Break(HeadSpan { len, end })
 }

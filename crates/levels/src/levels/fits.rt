@@ -9,88 +9,74 @@ use byte_lines::first_line;
 
 const HYPHEN: u8 = b'-';
 
-/// What a line is to one group.
+/// A line of one group.
 #[derive(Clone, Copy)]
 enum Mark {
     Separator,
     Closing,
-    Text,
 }
 
 /// What follows two hyphens at the text's start, if they stand there.
 fn after_hyphens(text: &[u8]) -> Option<&[u8]>
     ensures { MatchOption result ((t : Bytes) → text.now ≢ 45 ∷ (45 ∷ t)) (λ t. text.now ≡ 45 ∷ (45 ∷ t.now)) }
 {
-    let [first, second, rest @ ..] = text else {
-        return None;
-    };
-    if *first != HYPHEN || *second != HYPHEN {
-        return None;
+    match text {
+        [HYPHEN, HYPHEN, rest @ ..] => Some(rest),
+        _ => None,
     }
-    Some(rest)
 }
 
-/// What a line is to a group whose boundary stands in it behind two hyphens, with `tail` behind the boundary.
-fn ending(tail: &[u8]) -> Mark
+/// Which line of a group it is whose boundary stands in it behind two hyphens, with `tail` behind the boundary.
+fn ending(tail: &[u8]) -> Option<Mark>
     ensures { result ≡ mark_of [] tail.now }
 {
     match tail {
-        [] => Mark::Separator,
-        [HYPHEN, HYPHEN] => Mark::Closing,
-        _ => Mark::Text,
+        [] => Some(Mark::Separator),
+        [HYPHEN, HYPHEN] => Some(Mark::Closing),
+        _ => None,
     }
 }
 
 impl Level {
-    /// What a line is to this group, by what follows the line's two hyphens.
-    fn mark(&self, after: &[u8]) -> Mark
+    /// Which line of this group it is, by what follows the line's two hyphens.
+    fn mark(&self, after: &[u8]) -> Option<Mark>
         ensures { result ≡ mark_of (group_of self.now).boundary after.now }
     {
-        let Some(tail) = after.strip_prefix(self.boundary.as_bytes()) else {
-            return Mark::Text;
-        };
-        ending(tail)
+        ending(after.strip_prefix(self.boundary.as_bytes())?)
     }
 }
 
 impl Levels {
     /// What a line is, by what follows its two hyphens. The innermost group that it fits counts.
-    fn fit_after(&self, after: &[u8]) -> Fit
+    fn fit_after(&self, after: &[u8]) -> Option<Fit>
         ensures is { role_by (groups self.now) result ≡ role (groups self.now) (45 ∷ (45 ∷ after.now)) }
         ensures within { InDepth (length (groups self.now)) result }
     {
-        for i in 0..self.count {
-            let level = &self.slots[self.count - 1 - i];
+        for (i, level) in self.open().iter().rev().enumerate() {
             match level.mark(after) {
-                Mark::Separator => return Fit::Separates(i),
-                Mark::Closing => return Fit::Closes(i),
-                Mark::Text => {}
+                Some(Mark::Separator) => return Some(Fit::Separates(i)),
+                Some(Mark::Closing) => return Some(Fit::Closes(i)),
+                None => {}
             }
         }
-        Fit::Text
+        None
     }
 
     /// What a whole line is to the open groups.
-    pub fn fit(&self, line: &[u8]) -> Fit
+    #[tactic(auto, using(crate::proofs::LineTests::role_other))]
+    pub fn fit(&self, line: &[u8]) -> Option<Fit>
         ensures is { role_by (groups self.now) result ≡ role (groups self.now) line.now }
         ensures within { InDepth (length (groups self.now)) result }
     {
-        match after_hyphens(line) {
-            Some(after) => self.fit_after(after),
-            None => Fit::Text,
-        }
+        self.fit_after(after_hyphens(line)?)
     }
 
     /// What the first line of a text is to the open groups, by a view of at least 76 bytes of the text, or of all of it.
-    pub fn fit_view(&self, view: &[u8]) -> Fit
+    pub fn fit_view(&self, view: &[u8]) -> Option<Fit>
         ensures is { Decides (groups self.now) view.now result }
         ensures within { InDepth (length (groups self.now)) result }
     {
-        let near = &view[0..view.len().min(NEAR)];
-        let Some(after) = after_hyphens(near) else {
-            return Fit::Text;
-        };
-        let len = first_line(after).len;
-        self.fit_after(&after[0..len])
+        let after = after_hyphens(&view[..view.len().min(NEAR)])?;
+        self.fit_after(&after[..first_line(after).len])
     }
 }
