@@ -65,12 +65,11 @@ impl<S: Source> Input<S> {
         ensures nearer { wanting self.new < wanting self.old }
         ensures stands { self.new.from ≡ self.old.from }
     {
-        let to = self.to;
-        let most = LIMIT - (self.at + (to - self.from));
-        let room = (WINDOW - to).min(most.max(1));
-        match self.source.pull(&mut self.window[to..to + room]) {
+        let most = LIMIT - (self.at + (self.to - self.from));
+        let room = (WINDOW - self.to).min(most.max(1));
+        match self.source.pull(&mut self.window[self.to..self.to + room]) {
             Ok(_) if most == 0 => self.end = Some(overlong()),
-            Ok(n) => self.to = to + n,
+            Ok(n) => self.to += n,
             Err(end) => self.end = Some(end),
         }
     }
