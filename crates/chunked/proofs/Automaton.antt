@@ -1,51 +1,33 @@
 -- How the framing goes from byte to byte.
-use Rattle.std.proofs.Common.{◌≡◌, ℕ, zero, suc, ◌+◌, ◌<◌, ◌≤◌, Bool, true, false, ltb, [], ◌∷◌, ◌++◌, take, sym, refl, ap, ◌∙◌, subst, add-zero, zero-add, arith}
+use Rattle.std.proofs.Common.{◌≡◌, ℕ, zero, suc, ◌+◌, ◌<◌, ◌≤◌, Bool, true, false, ltb, [], ◌∷◌, ◌++◌, take, sym, refl, ap, ◌∙◌, subst, add-zero, zero-add, arith, Ok, Err}
 use Rattle.std.proofs.lemmas.Bool.{ltb-true, ltb-false, lt-ltb, le-ltb}
 use Rattle.source.specs.declared.ends.End.{End}
 use Rattle.source.specs.declared.ends.End.TheVariants.{Clean, Faulty}
 use Rattle.byte_lines.specs.Bytes.{Bytes}
 use Rattle.source.specs.Meanings.{fault}
 use Rattle.chunked.specs.declared.places.Place.{Place}
-use Rattle.chunked.specs.declared.places.Place.TheVariants.{Size, Extension, SizeEnd, Data, DataEnd, Trailer, TrailerEmpty, TrailerText, TrailerEnd}
-use Rattle.chunked.specs.declared.places.Step.{Step}
-use Rattle.chunked.specs.declared.places.Step.TheVariants.{Goes, Ends}
-use Rattle.chunked.specs.Framing.{Framed, framed, unframed, step, stops, delivers, overrun, early, limit}
+use Rattle.chunked.specs.declared.places.Place.TheVariants.{Size, Data}
+use Rattle.chunked.specs.Framing.{Step, Framed, framed, unframed, step, stops, delivers, overrun, early, limit}
 use Rattle.chunked.specs.Written.{SoundSoFar, TakenDecides, NothingLost}
 
 -- the bytes that b gives at a place
 abbrev pub given : Place → ℕ → Bytes
-given (Size line digits value) b = []
-given (Extension line value) b = []
-given (SizeEnd line value) b = []
-given (Data zero) b = []
 given (Data (suc n)) b = b ∷ []
-given (DataEnd place) b = []
-given Trailer b = []
-given TrailerEmpty b = []
-given TrailerText b = []
-given TrailerEnd b = []
+given p b = []
 
 abbrev pub prepend : Bytes → Framed → Framed
 prepend d f = record { bytes = d ++ f.bytes; ending = f.ending; taken = f.taken; left = f.left }
 
-pub delivers_is : (p : Place) (b : ℕ) (f : Framed) → delivers p b f ≡ prepend (given p b) f
-delivers_is (Size line digits value) b f = refl
-delivers_is (Extension line value) b f = refl
-delivers_is (SizeEnd line value) b f = refl
-delivers_is (Data zero) b f = refl
+delivers_is : (p : Place) (b : ℕ) (f : Framed) → delivers p b f ≡ prepend (given p b) f
 delivers_is (Data (suc n)) b f = refl
-delivers_is (DataEnd place) b f = refl
-delivers_is Trailer b f = refl
-delivers_is TrailerEmpty b f = refl
-delivers_is TrailerText b f = refl
-delivers_is TrailerEnd b f = refl
+delivers_is p b f = refl
 
-pub framed_goes : (p q : Place) (at b : ℕ) (s : Bytes) (e : End) → at < limit → step p at b ≡ Goes q
+pub framed_goes : (p q : Place) (at b : ℕ) (s : Bytes) (e : End) → at < limit → step p at b ≡ Ok q
     → framed p at (b ∷ s) e ≡ prepend (given p b) (framed q (at + 1) s e)
 unfolding framed
 framed_goes p q at b s e h g = rw (framed, lt-ltb at limit h, g) (delivers_is p b (framed q (at + 1) s e))
 
-pub framed-ends : (p : Place) (at b : ℕ) (s : Bytes) (e x : End) → at < limit → step p at b ≡ Ends x → framed p at (b ∷ s) e ≡ stops x (at + 1) s
+pub framed-ends : (p : Place) (at b : ℕ) (s : Bytes) (e x : End) → at < limit → step p at b ≡ Err x → framed p at (b ∷ s) e ≡ stops x (at + 1) s
 unfolding framed
 framed-ends p at b s e x h g = rw (framed, lt-ltb at limit h, g)
 
@@ -62,14 +44,14 @@ framed-none p at e h = rw (framed, lt-ltb at limit h)
 -- a case of a byte: at the limit, or before it by what its step does
 pub by_step : (P : Framed → Type 0) (p : Place) (at b : ℕ) (s : Bytes) (e : End)
     → (limit ≤ at → P (stops overrun at (b ∷ s)))
-    → ((q : Place) → at < limit → step p at b ≡ Goes q → P (prepend (given p b) (framed q (at + 1) s e)))
-    → ((x : End) → at < limit → step p at b ≡ Ends x → P (stops x (at + 1) s))
+    → ((q : Place) → at < limit → step p at b ≡ Ok q → P (prepend (given p b) (framed q (at + 1) s e)))
+    → ((x : End) → at < limit → step p at b ≡ Err x → P (stops x (at + 1) s))
     → P (framed p at (b ∷ s) e)
 by_step P p at b s e over goes ends = test (ltb at limit) refl
   where
     steps : at < limit → (x : Step) → step p at b ≡ x → P (framed p at (b ∷ s) e)
-    steps l (Goes q) h = subst P (sym (framed_goes p q at b s e l h)) (goes q l h)
-    steps l (Ends x) h = subst P (sym (framed-ends p at b s e x l h)) (ends x l h)
+    steps l (Ok q) h = subst P (sym (framed_goes p q at b s e l h)) (goes q l h)
+    steps l (Err x) h = subst P (sym (framed-ends p at b s e x l h)) (ends x l h)
 
     test : (t : Bool) → ltb at limit ≡ t → P (framed p at (b ∷ s) e)
     test true h = steps (ltb-true at limit h) (step p at b) refl

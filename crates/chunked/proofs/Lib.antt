@@ -3,5 +3,4 @@ pub mod Runs
 pub mod ReadsWritten
 pub mod Stands
 pub mod Outcomes
-pub mod FramingLaws
 pub mod Advances

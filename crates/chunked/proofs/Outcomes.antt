@@ -1,15 +1,13 @@
 -- What an end of the framing says of all the bytes below.
-use Rattle.std.proofs.Common.{◌≡◌, ℕ, zero, suc, ◌+◌, ◌≤◌, [], ◌∷◌, ◌++◌, length, take, sym, refl, ap, ◌∙◌, subst, append_assoc, append-nil, arith, length-append}
+use Rattle.std.proofs.Common.{◌≡◌, ℕ, suc, ◌+◌, ◌≤◌, [], ◌∷◌, ◌++◌, length, take, sym, refl, ap, ◌∙◌, subst, append_assoc, append-nil, arith, length-append, Err}
 use Rattle.std.proofs.lemmas.List.{length_push, take_at}
 use Rattle.source.specs.declared.ends.End.{End}
 use Rattle.source.specs.declared.ends.End.TheVariants.{Clean, Faulty}
 use Rattle.byte_lines.specs.Bytes.{Bytes}
 use Rattle.source.specs.Meanings.{fault}
 use Rattle.chunked.specs.declared.places.Place.{Place}
-use Rattle.chunked.specs.declared.places.Place.TheVariants.{Size, Extension, SizeEnd, Data, DataEnd, Trailer, TrailerEmpty, TrailerText, TrailerEnd}
-use Rattle.chunked.specs.declared.places.Step.{Step}
-use Rattle.chunked.specs.declared.places.Step.TheVariants.{Ends}
-use Rattle.chunked.specs.Framing.{Framed, framed, unframed, step, early, limit}
+use Rattle.chunked.specs.declared.places.Place.TheVariants.{Size, Data}
+use Rattle.chunked.specs.Framing.{Step, Framed, framed, unframed, step, early, limit}
 use Rattle.chunked.specs.Written.{written_line, written_chunks, Body, IsBody, written, CleanIsWritten, SizeFaultPlace, DataFaultPlace}
 use Rattle.chunked.proofs.Automaton.{given, by_step, by_none}
 use Rattle.chunked.proofs.ReadsWritten.{reads_what_is_written}
@@ -26,32 +24,16 @@ unblamed number place w d a b = record { size = λ e. absurd (a e); content = λ
 
 ended-early : (at : ℕ) (e : End) (w d left : Bytes) → Outcome e (early at e) w d left
 ended-early at Clean w d left = λ h. unblamed 24 at w d (λ e. omega arith) (λ e. omega arith)
-ended-early at (Faulty f) w d left = λ h. let z : ◌≡◌ {A = ℕ} 0 1 = cc in absurd (omega arith)
+ended-early at (Faulty f) w d left = λ h. absurd cc
 
 after-given : (p : Place) (b : ℕ) (d x : Bytes) → after p b d ++ x ≡ d ++ (given p b ++ x)
-after-given (Size line digits value) b d x = refl
-after-given (Extension line value) b d x = refl
-after-given (SizeEnd line value) b d x = refl
-after-given (Data zero) b d x = refl
 after-given (Data (suc n)) b d x = append_assoc d (b ∷ []) x
-after-given (DataEnd place) b d x = refl
-after-given Trailer b d x = refl
-after-given TrailerEmpty b d x = refl
-after-given TrailerText b d x = refl
-after-given TrailerEnd b d x = refl
+after-given p b d x = refl
 
 -- a byte that ends the framing gives nothing
-after_end : (p : Place) (at b : ℕ) (d : Bytes) (x : End) → step p at b ≡ Ends x → after p b d ≡ d ++ []
-after_end (Size line digits value) at b d x h = sym (append-nil d)
-after_end (Extension line value) at b d x h = sym (append-nil d)
-after_end (SizeEnd line value) at b d x h = sym (append-nil d)
-after_end (Data zero) at b d x h = sym (append-nil d)
-after_end (Data (suc n)) at b d x h = let z : ◌≡◌ {A = ℕ} 0 1 = cc in absurd (omega arith)
-after_end (DataEnd place) at b d x h = sym (append-nil d)
-after_end Trailer at b d x h = sym (append-nil d)
-after_end TrailerEmpty at b d x h = sym (append-nil d)
-after_end TrailerText at b d x h = sym (append-nil d)
-after_end TrailerEnd at b d x h = sym (append-nil d)
+after_end : (p : Place) (at b : ℕ) (d : Bytes) (x : End) → step p at b ≡ Err x → after p b d ≡ d ++ []
+after_end (Data (suc n)) at b d x h = absurd cc
+after_end p at b d x h = sym (append-nil d)
 
 finishes : (e x : End) (w d s : Bytes) → length w ≤ limit → Finished x w d → Outcome e x (w ++ s) d s
 finishes e Clean w d s n (m, (is, q)) = (m, (is, (ap (λ (y : Bytes). y ++ s) q, omega (arith, ap length q))))

@@ -1,5 +1,5 @@
 -- A lawful body is read as it is written: one run for each stretch of it.
-use Rattle.std.proofs.Common.{◌≡◌, ℕ, zero, suc, ◌+◌, ◌*◌, ◌<◌, ◌≤◌, Bool, true, false, not, ◌&&◌, ◌||◌, eqb, List, [], ◌∷◌, ◌++◌, length, Some, None, Option, sym, refl, ap, ◌∙◌, inl, inr, append_assoc, append-nil, arith, length-append}
+use Rattle.std.proofs.Common.{◌≡◌, ℕ, zero, suc, ◌+◌, ◌*◌, ◌<◌, ◌≤◌, Bool, true, false, not, ◌&&◌, ◌||◌, eqb, List, [], ◌∷◌, ◌++◌, length, Some, None, Option, sym, refl, ap, ◌∙◌, inl, inr, append_assoc, append-nil, arith, length-append, Ok}
 use Rattle.std.specs.List.{AllByRecursion}
 use Rattle.std.proofs.lemmas.Bool.{eqb-true, and_parts, or_cases, or_parts, not-true, lt-ltb, le-leb}
 use Rattle.byte_lines.specs.Classes.{blank, hex}
@@ -7,8 +7,7 @@ use Rattle.source.specs.declared.ends.End.TheVariants.{Clean}
 use Rattle.byte_lines.specs.Bytes.{Bytes}
 use Rattle.chunked.specs.declared.places.Place.{Place}
 use Rattle.chunked.specs.declared.places.Place.TheVariants.{Size, Extension, Data, Trailer, TrailerEmpty, TrailerText, TrailerEnd}
-use Rattle.chunked.specs.declared.places.Step.TheVariants.{Goes}
-use Rattle.chunked.specs.Framing.{unframed, step, in_size, behind_digits, digit, in_extension, chunk, largest}
+use Rattle.chunked.specs.Framing.{Step, unframed, step, in_size, behind_digits, digit, in_extension, chunk, largest}
 use Rattle.chunked.specs.Written.{crlf, value_from, unbroken, is_extension, one_line, SizeLine, Says, written_line, Chunk, IsChunk, written_chunk, IsTrailer, Body, IsBody}
 use Rattle.chunked.specs.Written.{written_chunks, written_trailer, written, contents, ReadsWhatIsWritten}
 use Rattle.chunked.proofs.Automaton.{prepend, framed-ends}
@@ -22,7 +21,7 @@ value_cons v b ds n h = go (hex b) refl h
     go : (o : Option ℕ) → hex b ≡ o → elim o [ Some d ↦ value_from (v * 16 + d) ds | None ↦ None ] ≡ Some n
         → (d : ℕ) × ((hex b ≡ Some d) × (value_from (v * 16 + d) ds ≡ Some n))
     go (Some d) e h = (d, (e, h))
-    go None e h = let z : ◌≡◌ {A = ℕ} 0 1 = cc in absurd (omega arith)
+    go None e h = absurd cc
 
 value_none : (v n : ℕ) → value_from v [] ≡ Some n → v ≡ n
 unfolding value_from
@@ -35,7 +34,7 @@ value_grows v (b ∷ ds) n h =
     let c = value_cons v b ds n h in
     omega (arith, value_grows (v * 16 + c.0) ds n c.1.1)
 
-step-digit : (line k v at b d : ℕ) → hex b ≡ Some d → k < 8 → v * 16 + d ≤ largest → step (Size line k v) at b ≡ Goes (Size line (k + 1) (v * 16 + d))
+step-digit : (line k v at b d : ℕ) → hex b ≡ Some d → k < 8 → v * 16 + d ≤ largest → step (Size line k v) at b ≡ Ok (Size line (k + 1) (v * 16 + d))
 step-digit line k v at b d h few small =
     ap (in_size line k v b) h ∙ rw (in_size, digit, lt-ltb k 8 few, le-leb (v * 16 + d) largest small)
 
@@ -56,7 +55,7 @@ extension_run line v [] at h = (at + 1 + 1, more refl (more refl none))
 extension_run line v (b ∷ x) at h =
     let parts = and_parts (not (eqb b 13 || eqb b 10)) (unbroken x) h in
     let free = or_parts (eqb b 13) (eqb b 10) (not-true (eqb b 13 || eqb b 10) parts.0) in
-    let goes : step (Extension line v) at b ≡ Goes (Extension line v) = rw (step, in_extension, free.0, free.1) in
+    let goes : step (Extension line v) at b ≡ Ok (Extension line v) = rw (step, in_extension, free.0, free.1) in
     let r = extension_run line v x (at + 1) parts.1 in
     (r.0, more goes r.1)
 
@@ -77,7 +76,7 @@ behind_run line (suc k) v [] at some h = (at + 1 + 1, more refl (more refl none)
 behind_run line (suc k) v (b ∷ x) at some h =
     let parts = and_parts (eqb b 59 || blank b) (unbroken x) h in
     let begins = begins_extension b parts.0 in
-    let goes : step (Size line (suc k) v) at b ≡ Goes (Extension line v)
+    let goes : step (Size line (suc k) v) at b ≡ Ok (Extension line v)
     = ap (in_size line (suc k) v b) begins.0 ∙ rw (in_size, behind_digits, begins.1, parts.0) in
     let r = extension_run line v x (at + 1) parts.1 in
     (r.0, more goes r.1)
@@ -136,17 +135,17 @@ line-held b t h = go (eqb b 13) refl
     go true e = rw (eqb-true b 13 e) at h
     go false e = line_tail b t h
 
-step_text : (at b : ℕ) → step TrailerText at b ≡ Goes (behind (eqb b 13))
+step_text : (at b : ℕ) → step TrailerText at b ≡ Ok (behind (eqb b 13))
 step_text at b = go (eqb b 13)
   where
-    go : (c : Bool) → elim c [ true ↦ Goes TrailerEnd | false ↦ Goes TrailerText ] ≡ Goes (behind c)
+    go : (c : Bool) → ◌≡◌ {A = Step} (elim c [ true ↦ Ok TrailerEnd | false ↦ Ok TrailerText ]) (Ok (behind c))
     go true = refl
     go false = refl
 
-step_end : (at b : ℕ) → eqb b 10 ≡ false → step TrailerEnd at b ≡ Goes (behind (eqb b 13))
+step_end : (at b : ℕ) → eqb b 10 ≡ false → step TrailerEnd at b ≡ Ok (behind (eqb b 13))
 step_end at b h = rw (step, h) (step_text at b)
 
-step_empty : (at b : ℕ) → eqb b 10 ≡ false → step TrailerEmpty at b ≡ Goes (behind (eqb b 13))
+step_empty : (at b : ℕ) → eqb b 10 ≡ false → step TrailerEmpty at b ≡ Ok (behind (eqb b 13))
 step_empty at b h = rw (step, h) (step_text at b)
 
 text_run : (cr : Bool) (t : Bytes) (at : ℕ) → one_line (held cr t) ≡ true → Reaches (behind cr) at (t ++ crlf) Trailer []
@@ -172,11 +171,11 @@ trailer_line_run (b ∷ t) at is = go (eqb b 13) refl
   where
     go : (c : Bool) → eqb b 13 ≡ c → Reaches Trailer at (b ∷ (t ++ crlf)) Trailer []
     go true e =
-        let goes : step Trailer at b ≡ Goes TrailerEmpty = rw (step, e) in
+        let goes : step Trailer at b ≡ Ok TrailerEmpty = rw (step, e) in
         let r = empty_run t (at + 1) (rw (eqb-true b 13 e) at is.line) in
         (r.0, more goes r.1)
     go false e =
-        let goes : step Trailer at b ≡ Goes TrailerText = rw (step, e) in
+        let goes : step Trailer at b ≡ Ok TrailerText = rw (step, e) in
         let r = text_run false t (at + 1) (line_tail b t is.line) in
         (r.0, more goes r.1)
 

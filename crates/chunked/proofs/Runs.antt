@@ -1,16 +1,15 @@
 -- A run of bytes that takes the framing from one place to another.
-use Rattle.std.proofs.Common.{◌≡◌, ℕ, ◌+◌, ◌≤◌, [], ◌∷◌, ◌++◌, length, sym, refl, ap, ◌∙◌, append_assoc, append-nil, arith}
+use Rattle.std.proofs.Common.{◌≡◌, ℕ, ◌+◌, ◌≤◌, [], ◌∷◌, ◌++◌, length, sym, refl, ap, ◌∙◌, append_assoc, append-nil, arith, Ok}
 use Rattle.source.specs.declared.ends.End.{End}
 use Rattle.byte_lines.specs.Bytes.{Bytes}
 use Rattle.chunked.specs.declared.places.Place.{Place}
-use Rattle.chunked.specs.declared.places.Step.TheVariants.{Goes}
 use Rattle.chunked.specs.Framing.{framed, step, limit}
 use Rattle.chunked.proofs.Automaton.{given, prepend, framed_goes}
 
 -- from the place p and the offset `at` the bytes w lead to the place q and the offset `to`, and give the bytes d
 pub data Run : Place → ℕ → Bytes → Place → ℕ → Bytes → Type 0 where
   none : {p : Place} {at : ℕ} → Run p at [] p at []
-  more : {p q r : Place} {at to b : ℕ} {w d : Bytes} → step p at b ≡ Goes q → Run q (at + 1) w r to d → Run p at (b ∷ w) r to (given p b ++ d)
+  more : {p q r : Place} {at to b : ℕ} {w d : Bytes} → step p at b ≡ Ok q → Run q (at + 1) w r to d → Run p at (b ∷ w) r to (given p b ++ d)
 
 -- the offset that it leads to is left out
 abbrev pub Reaches : Place → ℕ → Bytes → Place → Bytes → Type 0

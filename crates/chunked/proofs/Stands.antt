@@ -1,5 +1,5 @@
 -- What the bytes taken so far look like where the framing stands, and that each byte keeps it so.
-use Rattle.std.proofs.Common.{◌≡◌, ℕ, zero, suc, ◌+◌, ◌*◌, ◌<◌, ◌≤◌, Bool, true, false, not, ◌&&◌, ◌||◌, eqb, ltb, leb, List, [], ◌∷◌, ◌++◌, length, Some, None, Option, sym, refl, ap, ◌∙◌, subst, append_assoc, append-nil, zero-add, arith, length-append}
+use Rattle.std.proofs.Common.{◌≡◌, ℕ, zero, suc, ◌+◌, ◌*◌, ◌<◌, ◌≤◌, Bool, true, false, not, ◌&&◌, ◌||◌, eqb, ltb, leb, List, [], ◌∷◌, ◌++◌, length, Some, None, Option, sym, refl, ap, ◌∙◌, subst, append_assoc, append-nil, zero-add, arith, length-append, Ok, Err}
 use Rattle.std.specs.List.{AllByRecursion}
 use Rattle.std.proofs.lemmas.List.{flat_map_more, length_push}
 use Rattle.std.proofs.ByRecursion.{All-push}
@@ -12,9 +12,7 @@ use Rattle.byte_lines.specs.Bytes.{Bytes}
 use Rattle.source.specs.Meanings.{fault}
 use Rattle.chunked.specs.declared.places.Place.{Place}
 use Rattle.chunked.specs.declared.places.Place.TheVariants.{Size, Extension, SizeEnd, Data, DataEnd, Trailer, TrailerEmpty, TrailerText, TrailerEnd}
-use Rattle.chunked.specs.declared.places.Step.{Step}
-use Rattle.chunked.specs.declared.places.Step.TheVariants.{Goes, Ends}
-use Rattle.chunked.specs.Framing.{step, in_size, behind_digits, digit, in_extension, in_data, size_fault, data_fault, chunk, largest}
+use Rattle.chunked.specs.Framing.{Step, step, in_size, behind_digits, digit, in_extension, in_data, size_fault, data_fault, chunk, largest}
 use Rattle.chunked.specs.Written.{crlf, value_from, unbroken, is_extension, one_line, SizeLine, Says, written_line, Chunk, IsChunk, written_chunk, IsTrailer, Body, IsBody}
 use Rattle.chunked.specs.Written.{written_chunks, written_trailer, written, contents}
 use Rattle.chunked.proofs.ReadsWritten.{value_cons}
@@ -117,21 +115,13 @@ Finished Clean w d = (m : Body) × (IsBody m × (w ≡ written m))
 Finished (Faulty f) w d = Blamed f w d
 
 abbrev pub Kept : Step → (w d : Bytes) → Type 0
-Kept (Goes q) w d = Stands q w d
-Kept (Ends x) w d = Finished x w d
+Kept (Ok q) w d = Stands q w d
+Kept (Err x) w d = Finished x w d
 
 -- the bytes given behind b
 abbrev pub after : Place → ℕ → Bytes → Bytes
-after (Size line digits value) b d = d
-after (Extension line value) b d = d
-after (SizeEnd line value) b d = d
-after (Data zero) b d = d
 after (Data (suc n)) b d = d ++ (b ∷ [])
-after (DataEnd place) b d = d
-after Trailer b d = d
-after TrailerEmpty b d = d
-after TrailerText b d = d
-after TrailerEnd b d = d
+after p b d = d
 
 -- more bytes behind -------------------------------------------------------------------------------
 
@@ -212,14 +202,14 @@ extension_push (c ∷ x) b some h cr lf =
     and_from (eqb c 59 || blank c) (unbroken (x ++ (b ∷ []))) parts.0 (unbroken_push x b parts.1 cr lf)
 
 -- where b is known to be c
-as_byte : {line : ℕ} {w d : Bytes} (front : Bytes) (b c : ℕ) → eqb b c ≡ true → Behind line (front ++ (b ∷ [])) w d → Behind line (front ++ (c ∷ [])) w d
-as_byte {line} {w} {d} front b c e h = subst (λ (n : ℕ). Behind line (front ++ (n ∷ [])) w d) (eqb-true b c e) h
+as_byte : (P : Bytes → Type 0) (front : Bytes) (b c : ℕ) → eqb b c ≡ true → P (front ++ (b ∷ [])) → P (front ++ (c ∷ []))
+as_byte P front b c e h = subst (λ (n : ℕ). P (front ++ (n ∷ []))) (eqb-true b c e) h
 
 kept-digit : (line k v b x : ℕ) (w d : Bytes) → hex b ≡ Some x → AtSize line k v w d → Kept (digit line k (v * 16 + x)) (w ++ (b ∷ [])) d
 kept-digit line k v b x w d e h = go (ltb k 8 && leb (v * 16 + x) largest) refl
   where
     go : (t : Bool) → (ltb k 8 && leb (v * 16 + x) largest) ≡ t
-        → Kept (elim t [ true ↦ Goes (Size line (k + 1) (v * 16 + x)) | false ↦ size_fault line ]) (w ++ (b ∷ [])) d
+        → Kept (elim t [ true ↦ Ok (Size line (k + 1) (v * 16 + x)) | false ↦ size_fault line ]) (w ++ (b ∷ [])) d
     go true y =
         let parts = and_parts (ltb k 8) (leb (v * 16 + x) largest) y in
         record {
@@ -244,7 +234,7 @@ kept-behind line (suc k) v b w d h = go (eqb b 13) refl
     next : Behind line (h.text ++ (b ∷ [])) (w ++ (b ∷ [])) d
     next = behind_more (b ∷ []) h.behind
 
-    extends : (t : Bool) → (eqb b 59 || blank b) ≡ t → Kept (elim t [ true ↦ Goes (Extension line v) | false ↦ size_fault line ]) (w ++ (b ∷ [])) d
+    extends : (t : Bool) → (eqb b 59 || blank b) ≡ t → Kept (elim t [ true ↦ Ok (Extension line v) | false ↦ size_fault line ]) (w ++ (b ∷ [])) d
     extends true y =
         record {
           size = record { digits = h.text; extension = b ∷ [] };
@@ -256,11 +246,11 @@ kept-behind line (suc k) v b w d h = go (eqb b 13) refl
 
     go : (t : Bool) → eqb b 13 ≡ t
         → Kept (elim t [
-          | true ↦ Goes (SizeEnd line v)
-          | false ↦ elim (eqb b 59 || blank b) [ true ↦ Goes (Extension line v) | false ↦ size_fault line ]
+          | true ↦ Ok (SizeEnd line v)
+          | false ↦ elim (eqb b 59 || blank b) [ true ↦ Ok (Extension line v) | false ↦ size_fault line ]
         ]) (w ++ (b ∷ [])) d
     go true y =
-        record { size = record { digits = h.text; extension = [] }; behind = as_byte h.text b 13 y next; says = says_of line k v w d [] h refl }
+        record { size = record { digits = h.text; extension = [] }; behind = as_byte (λ x. Behind line x (w ++ (b ∷ [])) d) h.text b 13 y next; says = says_of line k v w d [] h refl }
     go false y = extends (eqb b 59 || blank b) refl
 
 kept_size : (line k v b : ℕ) (w d : Bytes) → AtSize line k v w d → Kept (in_size line k v b (hex b)) (w ++ (b ∷ [])) d
@@ -276,7 +266,7 @@ kept_extension line v b w d h = go (eqb b 13) refl
     next : Behind line (h.size.digits ++ (h.size.extension ++ (b ∷ []))) (w ++ (b ∷ [])) d
     next = subst (λ (x : Bytes). Behind line x (w ++ (b ∷ [])) d) (append_assoc h.size.digits h.size.extension (b ∷ [])) (behind_more (b ∷ []) h.behind)
 
-    within : (t : Bool) → eqb b 13 ≡ false → eqb b 10 ≡ t → Kept (elim t [ true ↦ size_fault line | false ↦ Goes (Extension line v) ]) (w ++ (b ∷ [])) d
+    within : (t : Bool) → eqb b 13 ≡ false → eqb b 10 ≡ t → Kept (elim t [ true ↦ size_fault line | false ↦ Ok (Extension line v) ]) (w ++ (b ∷ [])) d
     within true cr y = size_blamed line (h.size.digits ++ (h.size.extension ++ (b ∷ []))) (w ++ (b ∷ [])) d next
     within false cr y =
         record {
@@ -293,11 +283,11 @@ kept_extension line v b w d h = go (eqb b 13) refl
         }
 
     go : (t : Bool) → eqb b 13 ≡ t
-        → Kept (elim t [ true ↦ Goes (SizeEnd line v) | false ↦ elim (eqb b 10) [ true ↦ size_fault line | false ↦ Goes (Extension line v) ] ]) (w ++ (b ∷ [])) d
+        → Kept (elim t [ true ↦ Ok (SizeEnd line v) | false ↦ elim (eqb b 10) [ true ↦ size_fault line | false ↦ Ok (Extension line v) ] ]) (w ++ (b ∷ [])) d
     go true y =
         record {
           size = h.size;
-          behind = subst (λ (n : ℕ). Behind line (h.size.digits ++ (h.size.extension ++ (n ∷ []))) (w ++ (b ∷ [])) d) (eqb-true b 13 y) next;
+          behind = as_byte (λ x. Behind line (h.size.digits ++ x) (w ++ (b ∷ [])) d) h.size.extension b 13 y next;
           says = h.says;
         }
     go false y = within (eqb b 10) y refl
@@ -326,25 +316,25 @@ stands-chunk line (suc n) size w d says h =
       bytes = sym (append-nil d);
     }
 
-kept_size_end : (line v b : ℕ) (w d : Bytes) → AtSizeEnd line v w d → Kept (elim (eqb b 10) [ true ↦ Goes (chunk v) | false ↦ size_fault line ]) (w ++ (b ∷ [])) d
+kept_size_end : (line v b : ℕ) (w d : Bytes) → AtSizeEnd line v w d → Kept (elim (eqb b 10) [ true ↦ Ok (chunk v) | false ↦ size_fault line ]) (w ++ (b ∷ [])) d
 kept_size_end line v b w d h = go (eqb b 10) refl
   where
-    next : Behind line ((h.size.digits ++ (h.size.extension ++ (13 ∷ []))) ++ (b ∷ [])) (w ++ (b ∷ [])) d
+    P : Bytes → Type 0
+    P x = Behind line x (w ++ (b ∷ [])) d
+
+    next : P ((h.size.digits ++ (h.size.extension ++ (13 ∷ []))) ++ (b ∷ []))
     next = behind_more (b ∷ []) h.behind
 
     ends : (h.size.digits ++ (h.size.extension ++ (13 ∷ []))) ++ (10 ∷ []) ≡ written_line h.size
     ends = simp append_assoc
 
-    go : (t : Bool) → eqb b 10 ≡ t → Kept (elim t [ true ↦ Goes (chunk v) | false ↦ size_fault line ]) (w ++ (b ∷ [])) d
+    go : (t : Bool) → eqb b 10 ≡ t → Kept (elim t [ true ↦ Ok (chunk v) | false ↦ size_fault line ]) (w ++ (b ∷ [])) d
     go true y =
         stands-chunk line v h.size (w ++ (b ∷ [])) d h.says
-        (subst (λ (x : Bytes). Behind line x (w ++ (b ∷ [])) d) ends (as_byte (h.size.digits ++ (h.size.extension ++ (13 ∷ []))) b 10 y next))
+        (subst P ends (as_byte P (h.size.digits ++ (h.size.extension ++ (13 ∷ []))) b 10 y next))
     go false y = size_blamed line ((h.size.digits ++ (h.size.extension ++ (13 ∷ []))) ++ (b ∷ [])) (w ++ (b ∷ [])) d next
 
 -- data --------------------------------------------------------------------------------------------
-
-after_byte : {place : ℕ} {w d : Bytes} (front : Bytes) (b c : ℕ) → eqb b c ≡ true → AfterData place (front ++ (b ∷ [])) w d → AfterData place (front ++ (c ∷ [])) w d
-after_byte {place} {w} {d} front b c e h = subst (λ (n : ℕ). AfterData place (front ++ (n ∷ [])) w d) (eqb-true b c e) h
 
 kept_data : (left at b : ℕ) (w d : Bytes) → at ≡ length w → AtData left w d → Kept (in_data left at b) (w ++ (b ∷ [])) (after (Data left) b d)
 kept_data zero at b w d n h = go (eqb b 13) refl
@@ -362,8 +352,8 @@ kept_data zero at b w d n h = go (eqb b 13) refl
           count = omega (arith, length_push w b);
         }
 
-    go : (t : Bool) → eqb b 13 ≡ t → Kept (elim t [ true ↦ Goes (DataEnd at) | false ↦ data_fault at ]) (w ++ (b ∷ [])) d
-    go true y = after_byte [] b 13 y next
+    go : (t : Bool) → eqb b 13 ≡ t → Kept (elim t [ true ↦ Ok (DataEnd at) | false ↦ data_fault at ]) (w ++ (b ∷ [])) d
+    go true y = as_byte (λ x. AfterData at x (w ++ (b ∷ [])) d) [] b 13 y next
     go false y = data_blamed at (b ∷ []) (w ++ (b ∷ [])) d next
 kept_data (suc left) at b w d n h =
     let count : length h.content + suc left ≡ length (h.content ++ (b ∷ [])) + left = omega (arith, length_push h.content b) in
@@ -404,14 +394,14 @@ next_chunk place at w d n h =
     }
 
 kept_data_end : (place at b : ℕ) (w d : Bytes) → at ≡ length w → AfterData place (13 ∷ []) w d
-    → Kept (elim (eqb b 10) [ true ↦ Goes (Size (at + 1) 0 0) | false ↦ data_fault place ]) (w ++ (b ∷ [])) d
+    → Kept (elim (eqb b 10) [ true ↦ Ok (Size (at + 1) 0 0) | false ↦ data_fault place ]) (w ++ (b ∷ [])) d
 kept_data_end place at b w d n h = go (eqb b 10) refl
   where
     next : AfterData place (13 ∷ (b ∷ [])) (w ++ (b ∷ [])) d
     next = after_more (b ∷ []) h
 
-    go : (t : Bool) → eqb b 10 ≡ t → Kept (elim t [ true ↦ Goes (Size (at + 1) 0 0) | false ↦ data_fault place ]) (w ++ (b ∷ [])) d
-    go true y = next_chunk place (at + 1) (w ++ (b ∷ [])) d (omega (arith, length_push w b)) (after_byte (13 ∷ []) b 10 y next)
+    go : (t : Bool) → eqb b 10 ≡ t → Kept (elim t [ true ↦ Ok (Size (at + 1) 0 0) | false ↦ data_fault place ]) (w ++ (b ∷ [])) d
+    go true y = next_chunk place (at + 1) (w ++ (b ∷ [])) d (omega (arith, length_push w b)) (as_byte (λ x. AfterData place x (w ++ (b ∷ [])) d) (13 ∷ []) b 10 y next)
     go false y = data_blamed place (13 ∷ (b ∷ [])) (w ++ (b ∷ [])) d next
 
 -- trailer lines -----------------------------------------------------------------------------------
@@ -436,9 +426,6 @@ line_any (a ∷ g ∷ t) b c h cr =
     let parts = and_parts (not (eqb a 13 && eqb g 10)) (one_line (g ∷ (t ++ (b ∷ [])))) h in
     and_from (not (eqb a 13 && eqb g 10)) (one_line (g ∷ ((t ++ (b ∷ [])) ++ (c ∷ [])))) parts.0 (line_any (g ∷ t) b c parts.1 cr)
 
-trailing_byte : {w : Bytes} (front : Bytes) (b c : ℕ) → eqb b c ≡ true → Trailing (front ++ (b ∷ [])) w → Trailing (front ++ (c ∷ [])) w
-trailing_byte {w} front b c e h = subst (λ (n : ℕ). Trailing (front ++ (n ∷ [])) w) (eqb-true b c e) h
-
 -- one more whole trailer line
 trailing_line : (t w : Bytes) → IsTrailer t → Trailing (t ++ crlf) w → Trailing [] w
 trailing_line t w is h =
@@ -459,24 +446,24 @@ stands_text : (front w : Bytes) (b : ℕ) → one_line (front ++ (b ∷ [])) ≡
 stands_text front w b line cr h =
     record { text = front ++ (b ∷ []); trailing = h; some = omega (arith, length_push front b); line = line; any = λ c. line_any front b c line cr }
 
-kept_trailer : (b : ℕ) (w d : Bytes) → Trailing [] w → Kept (elim (eqb b 13) [ true ↦ Goes TrailerEmpty | false ↦ Goes TrailerText ]) (w ++ (b ∷ [])) d
+kept_trailer : (b : ℕ) (w d : Bytes) → Trailing [] w → Kept (elim (eqb b 13) [ true ↦ Ok TrailerEmpty | false ↦ Ok TrailerText ]) (w ++ (b ∷ [])) d
 unfolding one_line
 kept_trailer b w d h = go (eqb b 13) refl
   where
-    go : (t : Bool) → eqb b 13 ≡ t → Kept (elim t [ true ↦ Goes TrailerEmpty | false ↦ Goes TrailerText ]) (w ++ (b ∷ [])) d
-    go true y = trailing_byte [] b 13 y (trailing_more (b ∷ []) h)
+    go : (t : Bool) → eqb b 13 ≡ t → Kept (elim t [ true ↦ Ok TrailerEmpty | false ↦ Ok TrailerText ]) (w ++ (b ∷ [])) d
+    go true y = as_byte (λ x. Trailing x (w ++ (b ∷ []))) [] b 13 y (trailing_more (b ∷ []) h)
     go false y = stands_text [] (w ++ (b ∷ [])) b refl y (trailing_more (b ∷ []) h)
 
-kept_text : (b : ℕ) (w d : Bytes) → AtText w → Kept (elim (eqb b 13) [ true ↦ Goes TrailerEnd | false ↦ Goes TrailerText ]) (w ++ (b ∷ [])) d
+kept_text : (b : ℕ) (w d : Bytes) → AtText w → Kept (elim (eqb b 13) [ true ↦ Ok TrailerEnd | false ↦ Ok TrailerText ]) (w ++ (b ∷ [])) d
 kept_text b w d h = go (eqb b 13) refl
   where
-    go : (t : Bool) → eqb b 13 ≡ t → Kept (elim t [ true ↦ Goes TrailerEnd | false ↦ Goes TrailerText ]) (w ++ (b ∷ [])) d
-    go true y = record { text = h.text; trailing = trailing_byte h.text b 13 y (trailing_more (b ∷ []) h.trailing); some = h.some; line = h.line }
+    go : (t : Bool) → eqb b 13 ≡ t → Kept (elim t [ true ↦ Ok TrailerEnd | false ↦ Ok TrailerText ]) (w ++ (b ∷ [])) d
+    go true y = record { text = h.text; trailing = as_byte (λ x. Trailing x (w ++ (b ∷ []))) h.text b 13 y (trailing_more (b ∷ []) h.trailing); some = h.some; line = h.line }
     go false y = stands_text h.text (w ++ (b ∷ [])) b (h.any b) y (trailing_more (b ∷ []) h.trailing)
 
 -- behind a CR, a byte that is no LF
 kept-behind_cr : (t : Bytes) (b : ℕ) (w d : Bytes) → one_line t ≡ true → eqb b 10 ≡ false → Trailing (t ++ (13 ∷ [])) w
-    → Kept (elim (eqb b 13) [ true ↦ Goes TrailerEnd | false ↦ Goes TrailerText ]) (w ++ (b ∷ [])) d
+    → Kept (elim (eqb b 13) [ true ↦ Ok TrailerEnd | false ↦ Ok TrailerText ]) (w ++ (b ∷ [])) d
 kept-behind_cr t b w d line lf h = go (eqb b 13) refl
   where
     front : one_line (t ++ (13 ∷ [])) ≡ true
@@ -485,21 +472,21 @@ kept-behind_cr t b w d line lf h = go (eqb b 13) refl
     next : Trailing ((t ++ (13 ∷ [])) ++ (b ∷ [])) (w ++ (b ∷ []))
     next = trailing_more (b ∷ []) h
 
-    go : (c : Bool) → eqb b 13 ≡ c → Kept (elim c [ true ↦ Goes TrailerEnd | false ↦ Goes TrailerText ]) (w ++ (b ∷ [])) d
-    go true y = record { text = t ++ (13 ∷ []); trailing = trailing_byte (t ++ (13 ∷ [])) b 13 y next; some = omega (arith, length_push t 13); line = front }
+    go : (c : Bool) → eqb b 13 ≡ c → Kept (elim c [ true ↦ Ok TrailerEnd | false ↦ Ok TrailerText ]) (w ++ (b ∷ [])) d
+    go true y = record { text = t ++ (13 ∷ []); trailing = as_byte (λ x. Trailing x (w ++ (b ∷ []))) (t ++ (13 ∷ [])) b 13 y next; some = omega (arith, length_push t 13); line = front }
     go false y = stands_text (t ++ (13 ∷ [])) (w ++ (b ∷ [])) b (line_push (t ++ (13 ∷ [])) b front lf) y next
 
 kept_text_end : (b : ℕ) (w d : Bytes) → AtTextEnd w
-    → Kept (elim (eqb b 10) [ true ↦ Goes Trailer | false ↦ elim (eqb b 13) [ true ↦ Goes TrailerEnd | false ↦ Goes TrailerText ] ]) (w ++ (b ∷ [])) d
+    → Kept (elim (eqb b 10) [ true ↦ Ok Trailer | false ↦ elim (eqb b 13) [ true ↦ Ok TrailerEnd | false ↦ Ok TrailerText ] ]) (w ++ (b ∷ [])) d
 kept_text_end b w d h = go (eqb b 10) refl
   where
     next : Trailing (h.text ++ (13 ∷ (b ∷ []))) (w ++ (b ∷ []))
     next = subst (λ (x : Bytes). Trailing x (w ++ (b ∷ []))) (append_assoc h.text (13 ∷ []) (b ∷ [])) (trailing_more (b ∷ []) h.trailing)
 
     go : (t : Bool) → eqb b 10 ≡ t
-        → Kept (elim t [ true ↦ Goes Trailer | false ↦ elim (eqb b 13) [ true ↦ Goes TrailerEnd | false ↦ Goes TrailerText ] ]) (w ++ (b ∷ [])) d
+        → Kept (elim t [ true ↦ Ok Trailer | false ↦ elim (eqb b 13) [ true ↦ Ok TrailerEnd | false ↦ Ok TrailerText ] ]) (w ++ (b ∷ [])) d
     go true y =
-        let whole : Trailing (h.text ++ crlf) (w ++ (b ∷ [])) = subst (λ (n : ℕ). Trailing (h.text ++ (13 ∷ (n ∷ []))) (w ++ (b ∷ []))) (eqb-true b 10 y) next in
+        let whole : Trailing (h.text ++ crlf) (w ++ (b ∷ [])) = as_byte (λ x. Trailing (h.text ++ x) (w ++ (b ∷ []))) (13 ∷ []) b 10 y next in
         trailing_line h.text (w ++ (b ∷ [])) (record { some = h.some; line = h.line }) whole
     go false y = kept-behind_cr h.text b w d h.line y h.trailing
 
@@ -509,13 +496,13 @@ body_of w h =
     (record { chunks = h.chunks; last = h.last; trailer = h.lines }, (record { chunks = h.lawful; last = h.says; trailer = h.trailers }, h.is))
 
 kept_empty : (b : ℕ) (w d : Bytes) → Trailing (13 ∷ []) w
-    → Kept (elim (eqb b 10) [ true ↦ Ends Clean | false ↦ elim (eqb b 13) [ true ↦ Goes TrailerEnd | false ↦ Goes TrailerText ] ]) (w ++ (b ∷ [])) d
+    → Kept (elim (eqb b 10) [ true ↦ Err Clean | false ↦ elim (eqb b 13) [ true ↦ Ok TrailerEnd | false ↦ Ok TrailerText ] ]) (w ++ (b ∷ [])) d
 unfolding one_line
 kept_empty b w d h = go (eqb b 10) refl
   where
     go : (t : Bool) → eqb b 10 ≡ t
-        → Kept (elim t [ true ↦ Ends Clean | false ↦ elim (eqb b 13) [ true ↦ Goes TrailerEnd | false ↦ Goes TrailerText ] ]) (w ++ (b ∷ [])) d
-    go true y = body_of (w ++ (b ∷ [])) (trailing_byte (13 ∷ []) b 10 y (trailing_more (b ∷ []) h))
+        → Kept (elim t [ true ↦ Err Clean | false ↦ elim (eqb b 13) [ true ↦ Ok TrailerEnd | false ↦ Ok TrailerText ] ]) (w ++ (b ∷ [])) d
+    go true y = body_of (w ++ (b ∷ [])) (as_byte (λ x. Trailing x (w ++ (b ∷ []))) (13 ∷ []) b 10 y (trailing_more (b ∷ []) h))
     go false y = kept-behind_cr [] b w d refl y h
 
 -- each byte keeps what is said of a place, or the framing ends with what is said of that end

@@ -1,3 +1,4 @@
+pub mod Faults
 pub mod Framing
 pub mod Reading
 pub mod Written

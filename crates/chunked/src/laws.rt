@@ -1,8 +1,6 @@
 ghost use Rattle.chunked.specs.Written.{FramingLaws};
 
 /// The laws of the framing hold.
-pub fn framing_laws() -> u8
+pub fn framing_laws()
     ensures { FramingLaws }
-{
-    0
-}
+{}

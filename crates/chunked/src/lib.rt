@@ -1,6 +1,7 @@
 //! Chunked framing, as a source over any source.
 #![tactic(auto)]
 
+mod faults;
 mod laws;
 mod places;
 mod reader;

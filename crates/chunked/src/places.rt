@@ -1,13 +1,15 @@
-ghost use Rattle.std.specs.Prelude.{◌≡◌, ◌+◌, ◌*◌, ◌<◌, Some, None};
-ghost use Rattle.chunked.specs.Framing.{digit as digit_step, behind_digits, in_data, in_extension, chunk as chunk_place, early as early_end, size_fault, data_fault, step};
+ghost use Rattle.std.specs.Prelude.{◌≡◌, ◌+◌, ◌*◌, ◌<◌};
+ghost use Rattle.chunked.specs.Framing.{digit as digit_step, behind_digits, in_data, in_extension, chunk as chunk_place, step, limit};
 
+use crate::faults::Wrong;
 use byte_lines::hex_value;
-use source::{End, Fault};
+use source::End;
 
 /// The largest size of a chunk.
 const LARGEST: u32 = 16_777_216;
 
 /// Where the next byte from below stands in the framing.
+// No struct of a line and its value: `Size { line: Line { start, value }, digits }` is longer, and the definition of the framing takes the numbers apart.
 #[derive(Clone, Copy)]
 pub(crate) enum Place {
     /// In the size line that starts at `line`, behind so many digits of that value.
@@ -30,92 +32,49 @@ pub(crate) enum Place {
     TrailerEnd,
 }
 
-/// What a byte does: the framing goes on at a place, or ends.
-#[derive(Clone, Copy)]
-pub(crate) enum Step {
-    Goes(Place),
-    Ends(End),
-}
-
-fn size_fault(line: u32) -> Step
-    ensures { result ≡ size_fault line }
-{
-    Step::Ends(End::Faulty(Fault {
-        number: 21,
-        layer: 2,
-        place: line,
-    }))
-}
-
-fn data_fault(place: u32) -> Step
-    ensures { result ≡ data_fault place }
-{
-    Step::Ends(End::Faulty(Fault {
-        number: 23,
-        layer: 2,
-        place,
-    }))
-}
-
-/// The end of the framing where below ends too early.
-pub(crate) fn early(at: u32, below: End) -> End
-    ensures { result ≡ early_end at below }
-{
-    match below {
-        End::Clean => End::Faulty(Fault {
-            number: 24,
-            layer: 2,
-            place: at,
-        }),
-        End::Faulty(fault) => End::Faulty(fault),
-    }
-}
-
-fn in_digits(line: u32, digits: u32, value: u32, d: u8) -> Step
+fn in_digits(line: u32, digits: u32, value: u32, d: u8) -> Result<Place, End>
     ensures { result ≡ digit_step line digits (value * 16 + d) }
 {
-    let value = value as u64 * 16 + d as u64;
-    if digits < 8 && value <= LARGEST as u64 {
-        Step::Goes(Place::Size {
+    let value = value.saturating_mul(16).saturating_add(u32::from(d));
+    if digits < 8 && value <= LARGEST {
+        Ok(Place::Size {
             line,
             digits: digits + 1,
-            value: value as u32,
+            value,
         })
     } else {
-        size_fault(line)
+        Err(Wrong::Size.at(line))
     }
 }
 
-fn behind_digits(line: u32, digits: u32, value: u32, b: u8) -> Step
+fn behind_digits(line: u32, digits: u32, value: u32, b: u8) -> Result<Place, End>
     ensures { result ≡ behind_digits line digits value b }
 {
     match b {
-        _ if digits == 0 => size_fault(line),
-        b'\r' => Step::Goes(Place::SizeEnd { line, value }),
-        b';' | b' ' | b'\t' => Step::Goes(Place::Extension { line, value }),
-        _ => size_fault(line),
+        _ if digits == 0 => Err(Wrong::Size.at(line)),
+        b'\r' => Ok(Place::SizeEnd { line, value }),
+        b';' | b' ' | b'\t' => Ok(Place::Extension { line, value }),
+        _ => Err(Wrong::Size.at(line)),
     }
 }
 
-fn in_extension(line: u32, value: u32, b: u8) -> Step
+fn in_extension(line: u32, value: u32, b: u8) -> Result<Place, End>
     ensures { result ≡ in_extension line value b }
 {
     match b {
-        b'\r' => Step::Goes(Place::SizeEnd { line, value }),
-        b'\n' => size_fault(line),
-        _ => Step::Goes(Place::Extension { line, value }),
+        b'\r' => Ok(Place::SizeEnd { line, value }),
+        b'\n' => Err(Wrong::Size.at(line)),
+        _ => Ok(Place::Extension { line, value }),
     }
 }
 
-fn in_data(left: u32, at: u32, b: u8) -> Step
+fn in_data(left: u32, at: u32, b: u8) -> Result<Place, End>
     ensures { result ≡ in_data left at b }
 {
-    if left > 0 {
-        return Step::Goes(Place::Data { left: left - 1 });
-    }
     match b {
-        b'\r' => Step::Goes(Place::DataEnd { place: at }),
-        _ => data_fault(at),
+        _ if left > 0 => Ok(Place::Data { left: left - 1 }),
+        b'\r' => Ok(Place::DataEnd { place: at }),
+        _ => Err(Wrong::Data.at(at)),
     }
 }
 
@@ -123,58 +82,59 @@ fn in_data(left: u32, at: u32, b: u8) -> Step
 fn chunk(size: u32) -> Place
     ensures { result ≡ chunk_place size }
 {
-    if size == 0 {
-        Place::Trailer
-    } else {
-        Place::Data { left: size }
+    match size {
+        0 => Place::Trailer,
+        left => Place::Data { left },
     }
 }
 
-/// What the byte b, the one at the offset `at`, does at a place.
-pub(crate) fn step_at(place: Place, at: u32, b: u8) -> Step
-    requires { at < 33554432 }
-    ensures { result ≡ step place at b }
-{
-    match place {
-        Place::Size {
-            line,
-            digits,
-            value,
-        } => match hex_value(b) {
-            Some(d) => in_digits(line, digits, value, d),
-            None => behind_digits(line, digits, value, b),
-        },
-        Place::Extension { line, value } => in_extension(line, value, b),
-        Place::SizeEnd { line, value } => match b {
-            b'\n' => Step::Goes(chunk(value)),
-            _ => size_fault(line),
-        },
-        Place::Data { left } => in_data(left, at, b),
-        Place::DataEnd { place } => match b {
-            b'\n' => Step::Goes(Place::Size {
-                line: at + 1,
-                digits: 0,
-                value: 0,
-            }),
-            _ => data_fault(place),
-        },
-        Place::Trailer => match b {
-            b'\r' => Step::Goes(Place::TrailerEmpty),
-            _ => Step::Goes(Place::TrailerText),
-        },
-        Place::TrailerEmpty => match b {
-            b'\n' => Step::Ends(End::Clean),
-            b'\r' => Step::Goes(Place::TrailerEnd),
-            _ => Step::Goes(Place::TrailerText),
-        },
-        Place::TrailerText => match b {
-            b'\r' => Step::Goes(Place::TrailerEnd),
-            _ => Step::Goes(Place::TrailerText),
-        },
-        Place::TrailerEnd => match b {
-            b'\n' => Step::Goes(Place::Trailer),
-            b'\r' => Step::Goes(Place::TrailerEnd),
-            _ => Step::Goes(Place::TrailerText),
-        },
+impl Place {
+    /// What the byte b, the one at the offset `at`, does here: the framing goes on at a place, or ends.
+    pub(crate) fn step(self, at: u32, b: u8) -> Result<Place, End>
+        requires { at < limit }
+        ensures { result ≡ step self at b }
+    {
+        match self {
+            Place::Size {
+                line,
+                digits,
+                value,
+            } => match hex_value(b) {
+                Some(d) => in_digits(line, digits, value, d),
+                None => behind_digits(line, digits, value, b),
+            },
+            Place::Extension { line, value } => in_extension(line, value, b),
+            Place::SizeEnd { line, value } => match b {
+                b'\n' => Ok(chunk(value)),
+                _ => Err(Wrong::Size.at(line)),
+            },
+            Place::Data { left } => in_data(left, at, b),
+            Place::DataEnd { place } => match b {
+                b'\n' => Ok(Place::Size {
+                    line: at + 1,
+                    digits: 0,
+                    value: 0,
+                }),
+                _ => Err(Wrong::Data.at(place)),
+            },
+            Place::Trailer => match b {
+                b'\r' => Ok(Place::TrailerEmpty),
+                _ => Ok(Place::TrailerText),
+            },
+            Place::TrailerEmpty => match b {
+                b'\n' => Err(End::Clean),
+                b'\r' => Ok(Place::TrailerEnd),
+                _ => Ok(Place::TrailerText),
+            },
+            Place::TrailerText => match b {
+                b'\r' => Ok(Place::TrailerEnd),
+                _ => Ok(Place::TrailerText),
+            },
+            Place::TrailerEnd => match b {
+                b'\n' => Ok(Place::Trailer),
+                b'\r' => Ok(Place::TrailerEnd),
+                _ => Ok(Place::TrailerText),
+            },
+        }
     }
 }

@@ -1,5 +1,5 @@
-use crate::places::Step;
-use source::Source;
+use crate::places::Place;
+use source::{End, Source};
 
 mod pulls;
 
@@ -10,5 +10,5 @@ pub struct Chunked<S: Source> {
     /// How many bytes were taken from below.
     taken: u32,
     /// Where the next byte stands, or the end once it was come to.
-    next: Step,
+    next: Result<Place, End>,
 }

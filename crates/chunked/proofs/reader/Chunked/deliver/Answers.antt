@@ -1,8 +1,6 @@
-use Rattle.std.proofs.Common.{◌≡◌, ◌+◌, ◌-◌, ◌<◌, ◌≤◌, true, not, eqb, length, take, sym, refl, ap, arith}
+use Rattle.std.proofs.Common.{◌≡◌, ◌+◌, ◌-◌, ◌<◌, ◌≤◌, length, take, sym, refl, ap, arith}
+use Rattle.std.proofs.lemmas.Grind.{common_steps}
 use Rattle.std.proofs.lemmas.List.{length-take-le}
-use Rattle.source.specs.declared.ends.End.{End}
-use Rattle.source.specs.declared.ends.End.TheVariants.{Clean, Faulty}
-use Rattle.source.specs.Meanings.{ended}
 use Rattle.source.proofs.Pulling.{given, told, gives, tells, front_filled, front_kept}
 use Rattle.chunked.specs.declared.places.Place.TheVariants.{Data}
 use Rattle.chunked.specs.Framing.{Framed, framed}
@@ -10,15 +8,15 @@ use Rattle.chunked.specs.Reading.{framing}
 use Rattle.chunked.proofs.Advances.{run_same, gives-front, early_same, tells_end}
 use Rattle.chunked.proofs.reader.Chunked.deliver.Goals as goal
 
-pub returns-in-Gave : goal.returns-in-Gave
-returns-in-Gave g c =
+pub returns-in-Ok : goal.returns-in-Ok
+returns-in-Ok g c =
     let s = c.args.self.now in
     let m = g.S.Source.meaning s.source in
     let m' = g.S.Source.meaning c.pull.new.self in
-    let n = c.in-Gave.n in
-    let k = c.min-room.result - 0 in
+    let n = c.in-Ok.n in
+    let k = c.min-room.result in
     let buffer = c.args.buffer.now in
-    let p = given m (take k buffer) n m' c.pull.new.buffer c.in-Gave.ensures in
+    let p = given m (take k buffer) n m' c.pull.new.buffer c.in-Ok.ensures in
     let l : length (take k buffer) ≡ k = length-take-le k buffer (omega arith) in
     let fits : n ≤ k = omega (arith, p.fits) in
     let some : 0 < n = p.some (omega arith) in
@@ -34,24 +32,20 @@ returns-in-Gave g c =
       tells = refl;
     }
 
-tells_some : (e : End) → true ≡ not (eqb (ended e).0 0)
-tells_some Clean = refl
-tells_some (Faulty f) = refl
-
-pub returns-in-Ended : goal.returns-in-Ended
-returns-in-Ended g c =
+pub returns-in-Err : goal.returns-in-Err
+returns-in-Err g c =
     let s = c.args.self.now in
     let m = g.S.Source.meaning s.source in
     let m' = g.S.Source.meaning c.pull.new.self in
-    let k = c.min-room.result - 0 in
+    let k = c.min-room.result in
     let buffer = c.args.buffer.now in
-    let t = told m (take k buffer) c.in-Ended.end m' c.pull.new.buffer c.in-Ended.ensures in
-    let same = early_same s.next (Data c.args.left) s.taken m m' c.in-Ended.end c.early-end.result c.requires.here c.requires.more t.none t.is t.after c.early-end.ensures in
+    let t = told m (take k buffer) c.in-Err.end m' c.pull.new.buffer c.in-Err.ensures in
+    let same = early_same s.next (Data c.args.left) s.taken m m' c.in-Err.end c.early-end.result _ _ c.requires.here c.requires.more t c.early-end.ensures in
     record {
       pulls =
           tells _ buffer c.early-end.result _ _
           (tells_end (framing g.S.Source.meaning s) _ c.early-end.result s.taken m'.coming buffer _ (sym same) same c.requires.room (front_kept k buffer c.pull.new.buffer t.kept));
       taken = ap (λ x. x.taken) same;
       left = ap (λ x. x.left) same;
-      tells = tells_some c.early-end.result;
+      tells = grind (arith, common_steps);
     }
