@@ -9,8 +9,9 @@ use Rattle.std.proofs.lemmas.List.{take_all, drop_all}
 use Rattle.std.proofs.lemmas.Bool.{lt-ltb, le-ltb}
 use Rattle.std.proofs.lemmas.Bool.Decides.{eqb_tells}
 use Rattle.byte_lines.specs.Bytes.{Bytes}
-use Rattle.byte_lines.specs.Lines.{Line, crlf, lines, onto}
+use Rattle.byte_lines.specs.Lines.{crlf, lines, onto}
 use Rattle.byte_lines.specs.Spans.{FirstLine}
+use Rattle.byte_lines.proofs.LineLaws.{line}
 
 abbrev pub pairs : Bytes → List Bytes
 pairs [] = []
@@ -40,9 +41,6 @@ Other p = p ≡ crlf → ⊥
 
 no_pair : (b c : ℕ) → Other (b ∷ (c ∷ [])) → (eqb c 10 && eqb b 13) ≡ false
 no_pair b c h = grind (arith, eqb_tells, h)
-
-abbrev line : Bytes → Bool → Line
-line s t = record { content = s; ended = t }
 
 lines_at : (s : Bytes) (k : ℕ) → k < length (pairs s) → HoldsAt (λ p. p ≡ crlf) (pairs s) k → AllWithin Other (pairs s) 0 k
     → (suc k < length s) × (lines s ≡ line (take k s) true ∷ lines (drop (suc (suc k)) s))

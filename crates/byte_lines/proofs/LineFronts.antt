@@ -6,6 +6,7 @@ use Rattle.std.proofs.lemmas.List.{length-take-le}
 use Rattle.byte_lines.specs.Bytes.{Bytes}
 use Rattle.byte_lines.specs.Lines.{Line, AllEnded, onto, lines}
 use Rattle.byte_lines.specs.Spans.{FirstLine}
+use Rattle.byte_lines.proofs.LineLaws.{line}
 
 onto-append : (b : ℕ) (ls ms : List Line) → AllEnded (onto b ls) → (AllEnded ls × (onto b (ls ++ ms) ≡ onto b ls ++ ms))
 onto-append b [] ms a = absurd (false≢true a.0)
@@ -18,15 +19,12 @@ lines-append [] q a = refl
 lines-append (b ∷ []) q a = absurd (false≢true a.0)
 lines-append (b ∷ c ∷ cs) q a = go (eqb c 10 && eqb b 13) a (lines-append cs q) (lines-append (c ∷ cs) q)
   where
-    go : (t : Bool) → AllEnded (elim t [ true ↦ record { content = []; ended = true } ∷ lines cs | false ↦ onto b (lines (c ∷ cs)) ])
+    go : (t : Bool) → AllEnded (elim t [ true ↦ line [] true ∷ lines cs | false ↦ onto b (lines (c ∷ cs)) ])
         → (AllEnded (lines cs) → lines (cs ++ q) ≡ lines cs ++ lines q) → (AllEnded (lines (c ∷ cs)) → lines (c ∷ (cs ++ q)) ≡ lines (c ∷ cs) ++ lines q)
-        → elim t [ true ↦ record { content = []; ended = true } ∷ lines (cs ++ q) | false ↦ onto b (lines (c ∷ (cs ++ q))) ]
-        ≡ elim t [ true ↦ record { content = []; ended = true } ∷ lines cs | false ↦ onto b (lines (c ∷ cs)) ] ++ lines q
-    go true a h k = ap (λ (r : List Line). record { content = []; ended = true } ∷ r) (h a.1)
+        → elim t [ true ↦ line [] true ∷ lines (cs ++ q) | false ↦ onto b (lines (c ∷ (cs ++ q))) ]
+        ≡ elim t [ true ↦ line [] true ∷ lines cs | false ↦ onto b (lines (c ∷ cs)) ] ++ lines q
+    go true a h k = ap (λ (r : List Line). line [] true ∷ r) (h a.1)
     go false a h k = let o = onto-append b (lines (c ∷ cs)) (lines q) a in ap (onto b) (k o.0) ∙ o.1
-
-abbrev line : Bytes → Bool → Line
-line s t = record { content = s; ended = t }
 
 -- with its CRLF the first of these lines is one, whatever follows
 abbrev Stays : (s q : Bytes) → List Line → Type 0

@@ -6,6 +6,9 @@ use Rattle.std.proofs.lemmas.Bool.{eqb-true}
 use Rattle.byte_lines.specs.Bytes.{Bytes}
 use Rattle.byte_lines.specs.Lines.{Line, line_bytes, onto, lines}
 
+abbrev pub line : Bytes → Bool → Line
+line s t = record { content = s; ended = t }
+
 -- the text s begins with t
 abbrev pub Begins : (t s : Bytes) → Type 0
 Begins t s = (r : Bytes) × (t ++ r ≡ s)
@@ -56,7 +59,7 @@ lines_piece (b ∷ []) (c ∷ cs) h = step_last (eqb c 10 && eqb b 13) _ _ h
 lines_piece (b ∷ c ∷ cs) q h = step_on (eqb c 10 && eqb b 13) (goes_on (c ∷ cs) q) _ _ _ h (λ k. ap (onto b) (lines_piece (c ∷ cs) q k))
 
 -- a CRLF ends a line with nothing in it
-pub lines_break : (q : Bytes) → lines (13 ∷ (10 ∷ q)) ≡ record { content = []; ended = true } ∷ lines q
+pub lines_break : (q : Bytes) → lines (13 ∷ (10 ∷ q)) ≡ line [] true ∷ lines q
 unfolding lines
 lines_break q = refl
 
@@ -68,7 +71,7 @@ first_begins (b ∷ []) = ([], refl)
 first_begins (b ∷ c ∷ cs) = go (eqb c 10 && eqb b 13) (first_begins (c ∷ cs))
   where
     go : (t : Bool) → Begins (first (lines (c ∷ cs))) (c ∷ cs)
-        → Begins (first (elim t [ true ↦ record { content = []; ended = true } ∷ lines cs | false ↦ onto b (lines (c ∷ cs)) ])) (b ∷ (c ∷ cs))
+        → Begins (first (elim t [ true ↦ line [] true ∷ lines cs | false ↦ onto b (lines (c ∷ cs)) ])) (b ∷ (c ∷ cs))
     go true h = (b ∷ (c ∷ cs), refl)
     go false (r, p) = (r, ap (λ (l : Bytes). l ++ r) (first-onto b (lines (c ∷ cs))) ∙ ap (λ (l : Bytes). b ∷ l) p)
 
@@ -85,7 +88,7 @@ joined-lines (b ∷ []) = refl
 joined-lines (b ∷ c ∷ cs) = go (eqb c 10) (eqb b 13) refl refl (joined-lines cs) (joined-lines (c ∷ cs))
   where
     go : (t u : Bool) → eqb c 10 ≡ t → eqb b 13 ≡ u → flat_map line_bytes (lines cs) ≡ cs → flat_map line_bytes (lines (c ∷ cs)) ≡ c ∷ cs
-        → flat_map line_bytes (elim (t && u) [ true ↦ record { content = []; ended = true } ∷ lines cs | false ↦ onto b (lines (c ∷ cs)) ]) ≡ b ∷ (c ∷ cs)
+        → flat_map line_bytes (elim (t && u) [ true ↦ line [] true ∷ lines cs | false ↦ onto b (lines (c ∷ cs)) ]) ≡ b ∷ (c ∷ cs)
     go true true lf cr rest all =
         let ec : c ≡ 10 = eqb-true c 10 lf in
         let eb : b ≡ 13 = eqb-true b 13 cr in

@@ -2,7 +2,7 @@ ghost use Rattle.std.specs.Prelude.{◌≡◌};
 ghost use Rattle.source.specs.Meanings.{means};
 ghost use Rattle.cases.specs.Cuts.{cut_meaning};
 
-use source::{Block, End, Pulled, Source};
+use source::{Block, End, Source};
 
 /// A slice, and then any end: a source that is cut off.
 #[derive(Drop)]
@@ -25,10 +25,7 @@ impl<'a> Cut<'a> {
 impl Source for Cut<'_> {
     ghost meaning = { cut_meaning };
 
-    fn pull(&mut self, buffer: &mut [u8]) -> Pulled {
-        match self.block.pull(buffer) {
-            Pulled::Gave(n) => Pulled::Gave(n),
-            Pulled::Ended(_) => Pulled::Ended(self.end),
-        }
+    fn pull(&mut self, buffer: &mut [u8]) -> Result<usize, End> {
+        self.block.pull(buffer).or(Err(self.end))
     }
 }

@@ -1,6 +1,6 @@
 use crate::Cut;
 use chunked::Chunked;
-use source::{Block, End, Fault, Parcels, Pulled, Source};
+use source::{Block, End, Fault, Parcels, Source};
 use std::alloc::Global;
 use std::process::Abort;
 use std::test::Fail;
@@ -45,12 +45,12 @@ fn take<S: Source>(
     out: &mut Vec<u8>,
 ) -> Result<Option<End>, Fail> {
     match source.pull(buffer) {
-        Pulled::Gave(n) => {
+        Ok(n) => {
             assert!(rt; n <= buffer.len());
             out.extend_from_slice(&buffer[0..n])?;
             Ok(None)
         }
-        Pulled::Ended(end) => Ok(Some(end)),
+        Err(end) => Ok(Some(end)),
     }
 }
 
@@ -279,7 +279,7 @@ fn cut_anywhere(rt: HostRuntime) -> Result<(), Fail> {
 #[test]
 fn below_stays_in_place(rt: HostRuntime) -> Result<(), Fail> {
     let mut chunked = Chunked::new(Block::new(b"2\r\nab\r\n0\r\n\r\nnext"));
-    assert!(rt; matches!(chunked.pull(&mut []), Pulled::Gave(0)));
+    assert_eq!(rt; chunked.pull(&mut []), Ok(0));
     gives(
         &rt,
         rt.alloc(),
@@ -288,7 +288,7 @@ fn below_stays_in_place(rt: HostRuntime) -> Result<(), Fail> {
         b"ab",
         End::Clean,
     )?;
-    assert!(rt; matches!(chunked.pull(&mut []), Pulled::Gave(0)));
+    assert_eq!(rt; chunked.pull(&mut []), Ok(0));
     gives(
         &rt,
         rt.alloc(),

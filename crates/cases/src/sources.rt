@@ -1,4 +1,4 @@
-use source::{Parcels, Pulled, Source};
+use source::{Parcels, Source};
 use std::alloc::Global;
 use std::test::Fail;
 
@@ -12,10 +12,10 @@ fn counts<'a>(
     let mut parcels = Parcels::new(bytes, lengths);
     let mut out = Vec::new(heap);
     for _ in 0..100 {
-        match parcels.pull(buffer) {
-            Pulled::Gave(n) => out.push(n)?,
-            Pulled::Ended(_) => return Ok(out),
-        }
+        let Ok(n) = parcels.pull(buffer) else {
+            return Ok(out);
+        };
+        out.push(n)?;
     }
     Err(Fail::new("no end"))
 }

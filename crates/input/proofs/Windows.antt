@@ -1,6 +1,6 @@
 -- What pulls and steps do to what a window shows, and to what its input means.
-use Rattle.std.proofs.Common.{◌≡◌, ℕ, ◌+◌, ◌-◌, ◌<◌, ◌≤◌, true, false, cond, leb, [], ◌++◌, length, take, drop, is_some, Some, None, Option, sym, refl, ap, ◌∙◌, ⊎_elim, arith, take-add}
-use lib.Seq.{take-nil, paste}
+use Rattle.std.proofs.Common.{◌≡◌, ℕ, ◌+◌, ◌-◌, ◌<◌, ◌≤◌, Bool, true, false, ◌||◌, cond, leb, [], ◌++◌, length, take, drop, is_some, Some, None, Option, sym, refl, ap, ◌∙◌, ⊎_elim, arith, take-add}
+use lib.Seq.{take-nil}
 use borrow.Rule.Slice.PartMut.{put_mid}
 use Rattle.std.proofs.lemmas.List.{append_assoc, append-nil, length-append, length-take, length-drop, length-take-le, drop-drop, drop-take, drop_at, drop-append-le, take_at, take_all, take-take}
 use Rattle.std.proofs.lemmas.Slice.{between_is, take-put_mid_below}
@@ -12,7 +12,6 @@ use Rattle.source.specs.Meanings.{Meaning as SourceMeaning, fault}
 use Rattle.source.proofs.Pulling.{Given, Told}
 use Rattle.input.specs.declared.window.Input.{Input}
 use Rattle.input.specs.Inputs.{end_of, behind, finish, standing, passed, shown, known, meaning, unseen, Kept, Knows, AllShown}
-use Rattle.input.specs.Filling.{unended}
 use Rattle.source.specs.declared.sources.Source.{Ghosts}
 
 -- What the window shows, by its bytes and its two places.
@@ -40,14 +39,6 @@ shown-more w b d t from to k n h fits e p =
     let joined = append_assoc d t after in
     let first = take_at d (t ++ after) n e in
     cc
-
--- they were moved to the window's start
-pub shown-moved : (w w' : Bytes) (from to : ℕ) → from ≤ to → to ≤ length w → w' ≡ paste w 0 (drop from w) (to - from)
-    → take (to - from - 0) (drop 0 w') ≡ take (to - from) (drop from w)
-shown-moved w w' from to h fits p =
-    let v = take (to - from) (drop from w) in
-    let z : to - from - 0 ≡ to - from = omega arith in
-    ap (λ (m : ℕ). take m w') z ∙ ap (take (to - from)) p ∙ take_at v (drop (0 + (to - from)) w) (to - from) (length-shown w from to fits)
 
 -- the first k of them are passed over
 pub shown-less : (w : Bytes) (from to k : ℕ) → k ≤ to - from → take (to - (from + k)) (drop (from + k) w) ≡ drop k (take (to - from) (drop from w))
@@ -131,18 +122,11 @@ begins_twice u v w p q =
     let fits : length u ≤ length v = omega (arith, ap length p, length-take (length u) v) in
     sym (take-take (length u) (length v) w fits) ∙ ap (take (length u)) q ∙ p
 
--- a found end leaves less to find out
-pub nearer-ended : (to : ℕ) (o : Option End) → o ≡ None → (16384 - to) + 0 < (16384 - to) + unended o
-nearer-ended to o none = simp none (omega arith)
-
 -- What holds of every input.
 module _ {S : Type 0} {G : Ghosts S} (source : S → SourceMeaning) (i : Input S G) where
   pub length-window : length (shown i) ≡ i.to - i.from
   unfolding shown
   length-window = length-shown i.window i.from i.to (omega (arith, i.whole, i.within))
-
-  pub shown-fits : length (shown i) ≤ 16384
-  shown-fits = omega (arith, length-window, i.within)
 
   pub shown-first : (meaning source i).left ≡ shown i ++ unseen source i
   unfolding meaning unseen
@@ -171,6 +155,23 @@ module _ {S : Type 0} {G : Ghosts S} (source : S → SourceMeaning) (i : Input S
 
   pub all_shown : is_some (known i) ≡ true → AllShown source i (meaning source i).ending
   all_shown h = all-by (known i) refl h
+
+  -- the window shows n bytes, or else all
+  pub shows-all : (n : ℕ) → true ≡ (leb n (i.to - i.from) || is_some i.end) → length (shown i) < n → AllShown source i (meaning source i).ending
+  unfolding known
+  shows-all n h lt = all_shown (sym (h ∙ ap (λ t. t || is_some i.end) (lt-leb n (i.to - i.from) (omega (arith, length-window)))))
+
+  -- it shows fewer, and the end is not known
+  pub lacks-bytes : (n : ℕ) → false ≡ (leb n (i.to - i.from) || is_some i.end) → n ≤ length (shown i) → ⊥
+  lacks-bytes n h le = false≢true (h ∙ ap (λ t. t || is_some i.end) (le-leb n (i.to - i.from) (omega (arith, length-window))))
+
+  pub lacks-end : (n : ℕ) → false ≡ (leb n (i.to - i.from) || is_some i.end) → (e : End) → known i ≡ Some e → ⊥
+  unfolding known
+  lacks-end n h e k = go (leb n (i.to - i.from)) (h ∙ ap (λ o. leb n (i.to - i.from) || is_some o) k)
+    where
+      go : (t : Bool) → false ≡ (t || true) → ⊥
+      go true q = false≢true q
+      go false q = false≢true q
 
   pub kept_same : Kept source i i
   kept_same = record { means = refl; shows = begins_same (shown i) refl }

@@ -4,10 +4,6 @@ use Rattle.source.specs.declared.ends.End.{End}
 use Rattle.input.specs.declared.window.Input.{Input}
 use Rattle.source.specs.declared.sources.Source.{Ghosts}
 
--- how many bytes of the source were taken
-abbrev pub taken : {S : Type 0} {G : Ghosts S} → Input S G → ℕ
-taken i = i.at + (i.to - i.from)
-
 -- 1 while the end is not known
 abbrev pub unended : Option End → ℕ
 unended None = 1

@@ -13,9 +13,13 @@ pub record Meaning : Type 0 where
   pub ending : End
   pub offset : ℕ
 
--- the end of an input that takes `room` bytes of these: the source's own end if there are no more, else fault 31 at the limit
+-- the source has more bytes than the limit: fault 31 there
+abbrev pub overlong : End
+overlong = Faulty (fault 31 3 16777216)
+
+-- the end of an input that takes `room` bytes of these: the source's own end if there are no more, else the fault
 abbrev pub end_of : (room : ℕ) → Bytes → End → End
-end_of room s e = cond (nat_le (length s) room) e (Faulty (fault 31 3 16777216))
+end_of room s e = cond (nat_le (length s) room) e overlong
 
 -- the first bytes of a source, none of them passed
 abbrev pub first : (room : ℕ) → SourceMeaning → Meaning

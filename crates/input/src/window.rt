@@ -15,6 +15,7 @@ const LIMIT: usize = 16777216;
 #[derive(Drop)]
 pub struct Input<S: Source> {
     source: S,
+    // Memory of a fixed size: an array and two places, as a struct holds no slice of its own array.
     window: [u8; WINDOW],
     /// The window shows its bytes from `from` to `to`, and the first of them has the offset `at` in the input.
     from: usize,

@@ -1,4 +1,4 @@
-ghost use Rattle.std.specs.Prelude.{◌≡◌, ◌<◌, length};
+ghost use Rattle.std.specs.Prelude.{◌≡◌};
 ghost use Rattle.transfer.specs.Drains.{answer, drained as drained_by};
 
 use sink::{Refusal, Sink};
@@ -12,17 +12,6 @@ pub fn drain<S: Source, K: Sink>(source: &mut S, sink: &mut K) -> Result<End, Re
     ensures { (answer result, S.Source.meaning source.new, K.Sink.meaning sink.new) ≡ drained_by (S.Source.meaning source.old) (K.Sink.meaning sink.old) }
 {
     let mut buffer = [0; 1460];
-    drain_through(source, sink, &mut buffer)
-}
-
-fn drain_through<S: Source, K: Sink>(
-    source: &mut S,
-    sink: &mut K,
-    buffer: &mut [u8],
-) -> Result<End, Refusal>
-    requires { 0 < length buffer.old }
-    ensures { (answer result, S.Source.meaning source.new, K.Sink.meaning sink.new) ≡ drained_by (S.Source.meaning source.old) (K.Sink.meaning sink.old) }
-{
     loop {
         let room = buffer.len().min(sink.space() as usize);
         if room == 0 {

@@ -3,6 +3,6 @@ use Rattle.input.specs.Inputs.{known}
 use Rattle.input.proofs.Windows.{knows-by}
 use Rattle.input.proofs.window.Input.end.Goals as goal
 
-pub returns : goal.returns
+pub returns-clause-means : goal.returns-clause-means
 unfolding known
-returns g c = record { is = refl; means = knows-by g.S.Source.meaning c.args.self.now c.args.self.now.end refl }
+returns-clause-means g c = knows-by g.S.Source.meaning c.args.self.now c.args.self.now.end refl

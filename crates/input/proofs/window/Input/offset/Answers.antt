@@ -1,8 +1,7 @@
-use Rattle.std.proofs.Common.{refl}
 use Rattle.input.specs.Inputs.{meaning}
 use Rattle.input.proofs.Windows.{within-limit}
 use Rattle.input.proofs.window.Input.offset.Goals as goal
 
-pub returns : goal.returns
+pub returns-clause-within : goal.returns-clause-within
 unfolding meaning
-returns g c = record { is = refl; within = within-limit g.S.Source.meaning c.args.self.now }
+returns-clause-within g c = within-limit g.S.Source.meaning c.args.self.now
