@@ -17,4 +17,3 @@ pub mod Passing
 pub mod Trims
 pub mod HeadReads
 pub mod Canonical
-pub mod Sayings
