@@ -1,5 +1,5 @@
 pub mod Scans
-pub mod Verdicts
+pub mod LineTests
 pub mod Founds
 pub mod TextScans
 pub mod TextTrims
