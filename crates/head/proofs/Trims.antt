@@ -6,11 +6,11 @@ use Rattle.byte_lines.specs.Bytes.{Bytes}
 use Rattle.byte_lines.specs.Classes.{blank}
 use Rattle.byte_lines.specs.Strings.{before, after, trim_start, trim_end, trim, kept}
 
-start_blank : (b : ℕ) (bs : Bytes) → blank b ≡ true → trim_start (b ∷ bs) ≡ trim_start bs
+pub start_blank : (b : ℕ) (bs : Bytes) → blank b ≡ true → trim_start (b ∷ bs) ≡ trim_start bs
 unfolding trim_start
 start_blank b bs y = rw (trim_start, y)
 
-start_other : (b : ℕ) (bs : Bytes) → blank b ≡ false → trim_start (b ∷ bs) ≡ b ∷ bs
+pub start_other : (b : ℕ) (bs : Bytes) → blank b ≡ false → trim_start (b ∷ bs) ≡ b ∷ bs
 unfolding trim_start
 start_other b bs n = rw (trim_start, n)
 
@@ -40,11 +40,11 @@ abbrev kept_by : Bool → ℕ → Bytes
 kept_by true b = []
 kept_by false b = b ∷ []
 
-kept_one : (b : ℕ) (t : Bool) → blank b ≡ t → kept b [] ≡ kept_by t b
+pub kept_one : (b : ℕ) (t : Bool) → blank b ≡ t → kept b [] ≡ kept_by t b
 kept_one b true e = rw (kept, e)
 kept_one b false e = rw (kept, e)
 
-kept_more : (c : ℕ) (s : Bytes) → 0 < length s → kept c s ≡ c ∷ s
+pub kept_more : (c : ℕ) (s : Bytes) → 0 < length s → kept c s ≡ c ∷ s
 kept_more c [] h = absurd (omega arith)
 kept_more c (d ∷ ds) h = refl
 
