@@ -1,7 +1,7 @@
 -- Tokens, blanks at a text's ends, and the first place of a byte.
-use Rattle.std.proofs.Common.{◌≡◌, ℕ, zero, suc, ◌+◌, ◌<◌, ◌≤◌, true, false, [], ◌∷◌, length, get_or, take, drop, Option, Some, None, MatchOption, sym, refl, ap, ◌∙◌, arith}
+use Rattle.std.proofs.Common.{◌≡◌, ℕ, zero, suc, ◌+◌, ◌<◌, ◌≤◌, true, false, eqb, [], ◌∷◌, length, get_or, take, drop, Option, Some, None, MatchOption, sym, refl, ap, ◌∙◌, ⊎_elim, arith}
 use Rattle.std.proofs.lemmas.List.{length-take-le}
-use Rattle.std.proofs.lemmas.Bool.{eq-eqb, ne_eqb}
+use Rattle.std.proofs.lemmas.Bool.{cases_Bool, eq-eqb, ne_eqb, or_parts}
 use Rattle.byte_lines.specs.Bytes.{Bytes}
 use Rattle.byte_lines.specs.Classes.{blank}
 use Rattle.byte_lines.specs.Strings.{has, every, before, after, kept, trim_start, trim_end}
@@ -17,6 +17,13 @@ trim_start_by [] (suc n) h blanks stops = absurd (omega arith)
 trim_start_by (b ∷ bs) zero h blanks stops = sym (start_other b bs (stops (omega arith)))
 trim_start_by (b ∷ bs) (suc n) h blanks stops =
     trim_start_by bs n (omega arith) (λ k l. blanks (suc k) (omega arith)) (λ l. stops (omega arith)) ∙ sym (start_blank b bs (blanks 0 (omega arith)))
+
+pub length_trim_start : (s : Bytes) → length (trim_start s) ≤ length s
+unfolding trim_start
+length_trim_start [] = omega arith
+length_trim_start (b ∷ bs) =
+    let r = length_trim_start bs in
+    ⊎_elim (λ y. omega (arith, ap length (start_blank b bs y))) (λ n. omega (arith, ap length (start_other b bs n))) (cases_Bool (blank b))
 
 -- only blanks stand in the text
 pub trim_end-blanks : (s : Bytes) → ((k : ℕ) → k < length s → blank (get_or s k 0) ≡ true) → [] ≡ trim_end s
@@ -65,6 +72,17 @@ nowhere b (c ∷ cs) none =
 pub finds : (b : ℕ) (s : Bytes) (r : Option ℕ) → MatchOption r (NoneBefore b s (length s)) (λ i. (i < length s) × (get_or s i 0 ≡ b) × NoneBefore b s i) → Finds b s r
 finds b s None none = nowhere b s none
 finds b s (Some i) first = found b s i first.0 first.1 first.2
+
+-- what stands before and behind a byte that stands nowhere
+pub before_none : (b : ℕ) (s : Bytes) → has b s ≡ false → before b s ≡ s
+unfolding before
+before_none b [] e = refl
+before_none b (c ∷ cs) e = let p = or_parts (eqb b c) (has b cs) e in rw (before, p.0) (ap (λ (t : Bytes). c ∷ t) (before_none b cs p.1))
+
+pub after_none : (b : ℕ) (s : Bytes) → has b s ≡ false → after b s ≡ []
+unfolding after
+after_none b [] e = refl
+after_none b (c ∷ cs) e = let p = or_parts (eqb b c) (has b cs) e in rw (after, p.0) (after_none b cs p.1)
 
 -- a token has at least one byte, and all are a token's
 pub every-token : (s : Bytes) → 0 < length s → every token_byte s ≡ token s
