@@ -1,4 +1,3 @@
-pub mod Scans
 pub mod LineTests
 pub mod Founds
 pub mod TextScans

@@ -1,16 +1,16 @@
 -- Laws of the parts of byte strings.
 use Rattle.std.proofs.Common.{◌≡◌, ℕ, suc, ◌+◌, ◌-◌, ◌<◌, ◌≤◌, Bool, true, false, eqb, [], ◌∷◌, ◌++◌, length, get_or, take, drop, sym, refl, ap, ◌∙◌, ⊎_elim, arith}
-use Rattle.std.proofs.lemmas.List.{take_more}
+use Rattle.std.proofs.lemmas.List.{take_more, length-take}
 use Rattle.std.proofs.lemmas.Bool.{cases_Bool, eq-eqb, ne_eqb}
 use Rattle.byte_lines.specs.Bytes.{Bytes}
 use Rattle.byte_lines.specs.Classes.{blank}
 use Rattle.byte_lines.specs.Strings.{before, after, trim_start, trim_end, trim, kept}
 
-start_blank : (b : ℕ) (bs : Bytes) → blank b ≡ true → trim_start (b ∷ bs) ≡ trim_start bs
+pub start_blank : (b : ℕ) (bs : Bytes) → blank b ≡ true → trim_start (b ∷ bs) ≡ trim_start bs
 unfolding trim_start
 start_blank b bs y = rw (trim_start, y)
 
-start_other : (b : ℕ) (bs : Bytes) → blank b ≡ false → trim_start (b ∷ bs) ≡ b ∷ bs
+pub start_other : (b : ℕ) (bs : Bytes) → blank b ≡ false → trim_start (b ∷ bs) ≡ b ∷ bs
 unfolding trim_start
 start_other b bs n = rw (trim_start, n)
 
@@ -40,11 +40,11 @@ abbrev kept_by : Bool → ℕ → Bytes
 kept_by true b = []
 kept_by false b = b ∷ []
 
-kept_one : (b : ℕ) (t : Bool) → blank b ≡ t → kept b [] ≡ kept_by t b
+pub kept_one : (b : ℕ) (t : Bool) → blank b ≡ t → kept b [] ≡ kept_by t b
 kept_one b true e = rw (kept, e)
 kept_one b false e = rw (kept, e)
 
-kept_more : (c : ℕ) (s : Bytes) → 0 < length s → kept c s ≡ c ∷ s
+pub kept_more : (c : ℕ) (s : Bytes) → 0 < length s → kept c s ≡ c ∷ s
 kept_more c [] h = absurd (omega arith)
 kept_more c (d ∷ ds) h = refl
 
@@ -137,3 +137,18 @@ drop-after b (c ∷ cs) =
 
 pub take_last : (s : Bytes) (n : ℕ) → 0 < n → n ≤ length s → take n s ≡ take (n - 1) s ++ get_or s (n - 1) 0 ∷ []
 take_last s n h le = let e : n ≡ n - 1 + 1 = omega arith in ap (λ (k : ℕ). take k s) e ∙ take_more s (n - 1) 0 (omega arith)
+
+-- what is left of a text without the blanks at its end stands at its start
+take-kept : (b : ℕ) (bs t : Bytes) → take (length t) bs ≡ t → take (length (kept b t)) (b ∷ bs) ≡ kept b t
+take-kept b bs [] e =
+    let cut = λ (t : Bool) (q : blank b ≡ t). ap (λ (l : Bytes). take (length l) (b ∷ bs)) (kept_one b t q) in
+    ⊎_elim (λ y. cut true y ∙ sym (kept_one b true y)) (λ n. cut false n ∙ sym (kept_one b false n)) (cases_Bool (blank b))
+take-kept b bs (c ∷ cs) e = ap (λ (l : Bytes). b ∷ l) e
+
+pub take-trim_end : (s : Bytes) → take (length (trim_end s)) s ≡ trim_end s
+unfolding trim_end
+take-trim_end [] = refl
+take-trim_end (b ∷ bs) = take-kept b bs (trim_end bs) (take-trim_end bs)
+
+pub length_trim_end : (s : Bytes) → length (trim_end s) ≤ length s
+length_trim_end s = omega (arith, ap length (take-trim_end s), length-take (length (trim_end s)) s)

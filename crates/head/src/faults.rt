@@ -81,7 +81,7 @@ fn is_unclean(line: &[u8]) -> bool
 }
 
 /// Whether the line continues the field before it.
-fn continues_field(line: &[u8]) -> bool
+pub(crate) fn continues_field(line: &[u8]) -> bool
     ensures { result ≡ continues line.now }
 {
     matches!(line, [b' ' | b'\t', ..])

@@ -12,6 +12,7 @@ mod names;
 mod opening;
 mod packs;
 mod table;
+mod texts;
 
 pub use boundary::Boundary;
 pub use faults::{FaultAt, HeadFault, judge};
