@@ -1,6 +1,6 @@
 -- A field that was put: its name, and then its value.
-use Rattle.std.proofs.Common.{◌≡◌, ℕ, ◌+◌, ◌-◌, ◌<◌, ◌≤◌, Bool, false, ltb, List, ◌∷◌, ◌++◌, length, take, drop, sym, refl, ap, ◌∙◌, subst, arith}
-use Rattle.std.proofs.lemmas.List.{drop_at, take-take, length-append, length-take, length-take-le, length-drop}
+use Rattle.std.proofs.Common.{◌≡◌, ℕ, ◌+◌, ◌-◌, ◌<◌, ◌≤◌, Bool, false, ltb, List, ◌∷◌, ◌++◌, length, take, drop, sym, ap, ◌∙◌, subst, arith}
+use Rattle.std.proofs.lemmas.List.{drop_at, take-take, length-take, length-take-le, length-drop}
 use Rattle.std.proofs.lemmas.Slice.{between_is}
 use Rattle.std.proofs.lemmas.Bool.{le-ltb}
 use Rattle.std.proofs.Math.Seq.{take-append-add}
@@ -9,9 +9,9 @@ use Rattle.byte_lines.specs.Lines.{lines}
 use Rattle.byte_lines.specs.Spans.{FirstLine}
 use Rattle.byte_lines.specs.Strings.{before, after, trim_start, trim_end, trim}
 use Rattle.head.specs.declared.packs.Packer.{Packer}
-use Rattle.head.specs.Fields.{Field, continues, field, gathered, fields_of}
+use Rattle.head.specs.Fields.{Field, continues, field, gathered}
 use Rattle.head.specs.Packs.{stripped, Puts, MorePacked, FieldPacked}
-use Rattle.head.proofs.Gathers.{gathered-first, len_width}
+use Rattle.head.proofs.Gathers.{gathered-first}
 use Rattle.head.proofs.Joining.{puts_both, values_both, length-stripped}
 use Rattle.head.proofs.Trims.{trim_other, take-trim_end}
 

@@ -1,13 +1,16 @@
 -- What the parts of a Content-Type make of it.
 use Rattle.std.proofs.Common.{◌≡◌, ℕ, suc, ◌+◌, ◌-◌, ◌<◌, Bool, true, false, ◌&&◌, List, [], ◌∷◌, length, get_or, take, drop, Some, None, codes, Option, sym, refl, ap, ◌∙◌, arith, Bor}
+use Rattle.std.specs.Option.{option_flatten}
 use Rattle.std.proofs.lemmas.List.{take_rest}
 use Rattle.std.proofs.lemmas.Bool.{eq-eqb, and_right, and_from, false≢true}
 use Rattle.byte_lines.specs.Bytes.{Bytes}
 use Rattle.byte_lines.specs.Strings.{has, before, after, trim, named}
+use Rattle.head.specs.declared.boundary.Boundary.{Boundary}
+use Rattle.head.specs.BoundaryBytes.{boundary_of}
 use Rattle.head.specs.Entities.{boundaries, boundary}
 use Rattle.head.specs.Media.{token, quoted_content, content, Parameter, parameter_of, parameter, Quote, outside, onto_piece, quote_after, pieces, join_parameter, parameters, media_of, is_type, typed}
 use Rattle.head.specs.Summaries.{Summary, broken, typed_summary, summary}
-use Rattle.head.specs.MediaReads.{At, ends_piece, later_pieces, Shorter, multipart_type, ends_parameters, boundary_in, noted}
+use Rattle.head.specs.MediaReads.{At, ends_piece, later_pieces, Shorter, multipart_type, ends_parameters, boundary_in, found_of, noted}
 use Rattle.head.proofs.TextScans.{by_test}
 
 -- the slices before and behind the first b
@@ -62,48 +65,44 @@ parameters-more s (Some r) f =
     let p = some_piece outside r.now in
     ap (λ (l : List Bytes). parameters (s ∷ l)) p.1.1 ∙ ap (λ (l : List Bytes). join_parameter (parameter (trim s)) (parameters l)) (sym p.1.1)
 
--- the boundary among more values of that name, where it is o so far
-abbrev pub joins : (seen : Bool) → Option Bytes → List Bytes → Option Bytes
-joins seen o [] = o
-joins true o (b ∷ bs) = None
-joins false o (b ∷ bs) = boundary (b ∷ bs)
+-- the boundary among more values of that name, where those before them gave o, if there were any
+abbrev pub joins : Option (Option Bytes) → List Bytes → Option Bytes
+joins None bs = boundary bs
+joins (Some o) [] = o
+joins (Some o) (b ∷ bs) = None
 
 -- the same, among more parameters
-abbrev pub verdict : (seen : Bool) → Option Bytes → Option (List Parameter) → Option (Option Bytes)
-verdict seen o None = None
-verdict seen o (Some ps) = Some (joins seen o (boundaries ps))
+abbrev pub verdict : Option (Option Bytes) → Option (List Parameter) → Option (Option Bytes)
+verdict o None = None
+verdict o (Some ps) = Some (joins o (boundaries ps))
 
-joins_start : (bs : List Bytes) → joins false None bs ≡ boundary bs
-joins_start [] = refl
-joins_start (b ∷ bs) = refl
-
-pub verdict_start : (ps : Option (List Parameter)) → verdict false None ps ≡ boundary_in ps
+pub verdict_start : (ps : Option (List Parameter)) → verdict None ps ≡ boundary_in ps
 verdict_start None = refl
-verdict_start (Some ps) = ap (λ (o : Option Bytes). Some o) (joins_start (boundaries ps))
+verdict_start (Some ps) = refl
 
-pub verdict_end : (seen : Bool) (o : Option Bytes) → verdict seen o (Some []) ≡ Some o
+pub verdict_end : (f : Option (Option Boundary)) → verdict (found_of f) (Some []) ≡ Some (boundary_of (option_flatten f))
 unfolding boundaries
-verdict_end seen o = refl
+verdict_end None = refl
+verdict_end (Some b) = refl
 
-pub verdict_other : (seen : Bool) (o : Option Bytes) (p : Parameter) (ps : Option (List Parameter)) → named (codes "boundary") p.name ≡ false
-    → verdict seen o (join_parameter (Some p) ps) ≡ verdict seen o ps
+pub verdict_other : (o : Option (Option Bytes)) (p : Parameter) (ps : Option (List Parameter)) → named (codes "boundary") p.name ≡ false → verdict o (join_parameter (Some p) ps) ≡ verdict o ps
 unfolding boundaries
-verdict_other seen o p None f = refl
-verdict_other seen o p (Some ps) f = let e : boundaries (p ∷ ps) ≡ boundaries ps = rw (boundaries, f) in ap (λ (l : List Bytes). Some (joins seen o l)) e
+verdict_other o p None f = refl
+verdict_other o p (Some ps) f = let e : boundaries (p ∷ ps) ≡ boundaries ps = rw (boundaries, f) in ap (λ (l : List Bytes). Some (joins o l)) e
 
-joins-more : (seen : Bool) (o : Option Bytes) (b : Bytes) (bs : List Bytes) → joins seen o (b ∷ bs) ≡ joins true (noted seen b) bs
-joins-more true o b [] = refl
-joins-more true o b (c ∷ bs) = refl
-joins-more false o b [] = refl
-joins-more false o b (c ∷ bs) = refl
+joins-more : (o : Option (Option Bytes)) (b : Bytes) (bs : List Bytes) → joins o (b ∷ bs) ≡ joins (Some (noted o b)) bs
+joins-more None b [] = refl
+joins-more None b (c ∷ bs) = refl
+joins-more (Some o) b [] = refl
+joins-more (Some o) b (c ∷ bs) = refl
 
-pub verdict-boundary : (seen : Bool) (o : Option Bytes) (p : Parameter) (ps : Option (List Parameter)) → named (codes "boundary") p.name ≡ true
-    → verdict seen o (join_parameter (Some p) ps) ≡ verdict true (noted seen p.value) ps
+pub verdict-boundary : (o : Option (Option Bytes)) (p : Parameter) (ps : Option (List Parameter)) → named (codes "boundary") p.name ≡ true
+    → verdict o (join_parameter (Some p) ps) ≡ verdict (Some (noted o p.value)) ps
 unfolding boundaries
-verdict-boundary seen o p None t = refl
-verdict-boundary seen o p (Some ps) t =
+verdict-boundary o p None t = refl
+verdict-boundary o p (Some ps) t =
     let e : boundaries (p ∷ ps) ≡ p.value ∷ boundaries ps = rw (boundaries, t) in
-    ap (λ (l : List Bytes). Some (joins seen o l)) e ∙ ap (λ (b : Option Bytes). Some b) (joins-more seen o p.value (boundaries ps))
+    ap (λ (l : List Bytes). Some (joins o l)) e ∙ ap (λ (b : Option Bytes). Some b) (joins-more o p.value (boundaries ps))
 
 -- the whole, from its type and its parameters' boundary
 abbrev pub summarized : (is_multipart : Bool) → Option (Option Bytes) → Summary
