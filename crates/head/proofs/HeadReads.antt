@@ -1,7 +1,7 @@
 -- The whole result of reading a head, by what its lines and fields say.
-use Rattle.std.proofs.Common.{◌≡◌, ℕ, ◌-◌, ◌<◌, ◌≤◌, Bool, true, false, ◌&&◌, leb, List, [], ◌∷◌, ◌++◌, length, take, drop, replicate, Result, Ok, Err, is_err, OnOk, OnErr, refl, ap, ◌∙◌, append-nil, arith}
+use Rattle.std.proofs.Common.{◌≡◌, ℕ, ◌-◌, ◌<◌, ◌≤◌, Bool, true, false, ◌&&◌, leb, List, [], ◌∷◌, ◌++◌, length, take, drop, replicate, Result, Ok, Err, is_err, OnOk, OnErr, refl, sym, ap, ◌∙◌, append-nil}
 use Rattle.std.specs.Array.{IsFirstChunk}
-use Rattle.std.proofs.lemmas.List.{append_assoc, drop_all, take-append-drop, length-take-le}
+use Rattle.std.proofs.lemmas.List.{append_assoc, take-append-drop}
 use Rattle.std.proofs.lemmas.Bool.{true≢false, false≢true, le-leb, lt-leb, and_from, and_right}
 use Rattle.byte_lines.specs.Bytes.{Bytes, Answer}
 use Rattle.byte_lines.specs.Lines.{lines}
@@ -10,29 +10,24 @@ use Rattle.head.specs.Fields.{Field, fields_of}
 use Rattle.head.specs.LineFaults.{Verdict, passes, judged}
 use Rattle.head.specs.Entities.{Entity, entity}
 use Rattle.head.specs.Packing.{laid, packed, records, no_record, buffer_after, table_after}
+use Rattle.head.specs.Packs.{padded}
 use Rattle.head.specs.Lookup.{fields_in}
 use Rattle.head.specs.Heads.{opened, told, head_says, head_read, head_cleared}
 use Rattle.head.proofs.PackingLaws.{packing_gives_back}
 
--- fields that were laid out over the front of a list, before what stood behind it
-front_laid : {A : Type 0} (zero : A) (n : ℕ) (xs front new old : List A) → length front ≡ n → new ≡ laid zero n xs front → new ++ drop n old ≡ laid zero n xs old
-front_laid {A} zero n xs front new old same e =
-    let pad = replicate (n - length xs) zero in
-    let d : drop n front ≡ [] = drop_all n front (omega arith) in
-    ap (λ (t : List A). t ++ drop n old) e ∙ ap (λ (t : List A). (xs ++ (pad ++ t)) ++ drop n old) d ∙ append_assoc xs (pad ++ []) (drop n old) ∙ ap (λ (t : List A). xs ++ (t ++ drop n old)) (append-nil pad)
+-- a list that was written whole, before what stood behind it
+padded_laid : {A : Type 0} {new : List A} (zero : A) (n : ℕ) (xs old : List A) → new ≡ padded zero n xs → new ++ drop n old ≡ laid zero n xs old
+padded_laid {A} {new} zero n xs old e = ap (λ (t : List A). t ++ drop n old) e ∙ append_assoc xs (replicate (n - length xs) zero) (drop n old)
 
-pub buffer_laid : {new : Bytes} (fs : List Field) (front old : Bytes) → length front ≡ 8192 → new ≡ buffer_after fs front → new ++ drop 8192 old ≡ buffer_after fs old
-buffer_laid {new} fs front old same e = front_laid 0 8192 (packed fs) front new old same e
+pub buffer_laid : {new : Bytes} (fs : List Field) (old : Bytes) → new ≡ padded 0 8192 (packed fs) → new ++ drop 8192 old ≡ buffer_after fs old
+buffer_laid fs old e = padded_laid 0 8192 (packed fs) old e
 
-pub table_laid : {new : List Record} (fs : List Field) (front old : List Record) → length front ≡ 64 → new ≡ table_after fs front → new ++ drop 64 old ≡ table_after fs old
-table_laid {new} fs front old same e = front_laid no_record 64 (records 0 fs) front new old same e
+pub table_laid : {new : List Record} (fs : List Field) (old : List Record) → new ≡ padded no_record 64 (records 0 fs) → new ++ drop 64 old ≡ table_after fs old
+table_laid fs old e = padded_laid no_record 64 (records 0 fs) old e
 
 -- a front that was left as it is
 pub front_kept : {A : Type 0} {n : ℕ} {front old : List A} → IsFirstChunk old front n → front ++ drop n old ≡ old
 front_kept {A} {n} {front} {old} f = ap (λ (t : List A). t ++ drop n old) f.same ∙ take-append-drop n old
-
-pub front_length : {A : Type 0} {n : ℕ} {front old : List A} → IsFirstChunk old front n → length front ≡ n
-front_length {A} {n} {front} {old} f = ap length f.same ∙ length-take-le n old f.enough
 
 together : {A B C : Type 0} {a a' : A} {b b' : B} {c c' : C} → a ≡ a' → b ≡ b' → c ≡ c' → ◌≡◌ {A = A × B × C} (a, b, c) (a', b', c')
 together p q r = cc
@@ -67,9 +62,11 @@ module _ (buffer : Bytes) (table : List Record) where
   not_read around s e a p = let h = short a in together e p refl ∙ rw h
 
 -- the entity that was decided over the packed fields is that of the fields, and all that the head says
-pub decided : (around n m : ℕ) (x : Entity) (s old new : Bytes) (rs rs' : List Record) → passes m ≡ judged 0 0 (lines s) → n ≡ length (fields_of (lines s)) → new ≡ buffer_after (fields_of (lines s)) old
-    → rs' ≡ table_after (fields_of (lines s)) rs → x ≡ entity around (fields_in new (take n rs')) → opened x (fields_of (lines s)) ≡ head_says around s
-decided around n m x s old new rs rs' passed count bytes records e =
+pub decided : (around n m : ℕ) (x : Entity) (s buffer : Bytes) (table : List Record) → passes m ≡ judged 0 0 (lines s) → n ≡ length (fields_of (lines s)) → buffer ≡ padded 0 8192 (packed (fields_of (lines s)))
+    → table ≡ padded no_record 64 (records 0 (fields_of (lines s))) → x ≡ entity around (fields_in buffer (take n table)) → opened x (fields_of (lines s)) ≡ head_says around s
+decided around n m x s buffer table passed count bytes rows e =
     let fs = fields_of (lines s) in
-    let d : x ≡ entity around fs = rw (e, bytes, records, count) (ap (entity around) (packing_gives_back fs old rs)) in
+    let b : buffer ≡ buffer_after fs [] = sym (append-nil buffer) ∙ buffer_laid fs [] bytes in
+    let t : table ≡ table_after fs [] = sym (append-nil table) ∙ table_laid fs [] rows in
+    let d : x ≡ entity around fs = rw (e, b, t, count) (ap (entity around) (packing_gives_back fs [] [])) in
     ap (λ (y : Entity). opened y fs) d ∙ ap (λ (v : Verdict). told around v fs) passed

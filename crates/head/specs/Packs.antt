@@ -1,5 +1,5 @@
 -- What the steps of a packing leave. Assumes nothing.
-use Rattle.std.specs.Prelude.{◌≡◌, ℕ, ◌+◌, ◌<◌, ◌≤◌, Bool, true, false, ◌∷◌, ◌++◌, length, take, nat_lt}
+use Rattle.std.specs.Prelude.{◌≡◌, ℕ, ◌+◌, ◌-◌, ◌<◌, ◌≤◌, Bool, true, false, List, ◌∷◌, ◌++◌, length, take, replicate, nat_lt}
 use Rattle.byte_lines.specs.Bytes.{Bytes}
 use Rattle.byte_lines.specs.Lines.{lines}
 use Rattle.byte_lines.specs.Strings.{trim_start}
@@ -39,3 +39,7 @@ pub record FieldPacked (head rest : Bytes) (old new : Packer) (name value : ℕ)
   pub shorter : length rest < length head
   pub fits : new.to + length rest ≤ old.to + length head
   pub ends : continues rest ≡ false
+
+-- xs and then zeros, n elements in all
+abbrev pub padded : {A : Type 0} → (zero : A) (n : ℕ) → List A → List A
+padded zero n xs = xs ++ replicate (n - length xs) zero

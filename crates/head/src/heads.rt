@@ -1,20 +1,16 @@
 ghost use Rattle.std.specs.Prelude.{◌≡◌, [], is_ok, OnOk, OnErr};
 ghost use Rattle.head.specs.declared.heads.HeadError.TheVariants.{Fault};
 ghost use Rattle.head.specs.Heads.{answer, head_says, head_read, head_cleared};
-ghost use Rattle.head.specs.Packing.{buffer_after, table_after};
+ghost use Rattle.head.specs.Packing.{packed, records, no_record};
+ghost use Rattle.head.specs.Packs.{padded};
 
 use crate::boundary::Boundary;
 use crate::faults::{FaultAt, HeadFault, judge};
 use crate::lookup::Fields;
 use crate::opening::{Opening, decide};
-use crate::packs::{clear, pack};
+use crate::packs::{BUFFER, TABLE, clear, pack};
 use crate::table::Record;
 use coding::Coding;
-
-/// How long a head buffer is at least, and how many records a table has.
-const BUFFER: usize = 8192;
-
-const TABLE: usize = 64;
 
 /// What a head tells of its entity.
 #[derive(Clone, Copy)]
@@ -71,7 +67,7 @@ fn read_into(
 ) -> Result<Head, HeadError>
     ensures answers { answer result ≡ (head_says around head.now).0 }
     ensures faulty { OnErr result ((head_says around head.now).1 ≡ []) }
-    ensures laid { OnOk result ((buffer.new ≡ buffer_after (head_says around head.now).1 buffer.old) × (table.new ≡ table_after (head_says around head.now).1 table.old)) }
+    ensures laid { OnOk result ((buffer.new ≡ padded 0 8192 (packed (head_says around head.now).1)) × (table.new ≡ padded no_record 64 (records 0 (head_says around head.now).1))) }
 {
     judge(head)?;
     let count = pack(head, buffer, table);

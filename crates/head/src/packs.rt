@@ -3,8 +3,8 @@ ghost use Rattle.byte_lines.specs.Lines.{lines};
 ghost use Rattle.byte_lines.specs.Strings.{before, after, trim_end};
 ghost use Rattle.head.specs.Fields.{continues, fields_of};
 ghost use Rattle.head.specs.LineFaults.{judged, passes};
-ghost use Rattle.head.specs.Packing.{buffer_after, table_after};
-ghost use Rattle.head.specs.Packs.{Room, stripped, Puts, MorePacked, FieldPacked};
+ghost use Rattle.head.specs.Packing.{packed, records, no_record};
+ghost use Rattle.head.specs.Packs.{Room, stripped, Puts, MorePacked, FieldPacked, padded};
 
 use crate::faults::continues_field;
 use crate::table::Record;
@@ -131,8 +131,8 @@ pub(crate) fn pack(head: &[u8], buffer: &mut [u8; BUFFER], table: &mut [Record; 
     requires lawful { (n : ℕ) × (judged 0 0 (lines head.now) ≡ passes n) }
     ensures few { result ≤ 64 }
     ensures count { result ≡ length (fields_of (lines head.now)) }
-    ensures bytes { buffer.new ≡ buffer_after (fields_of (lines head.now)) buffer.old }
-    ensures records { table.new ≡ table_after (fields_of (lines head.now)) table.old }
+    ensures bytes { buffer.new ≡ padded 0 8192 (packed (fields_of (lines head.now))) }
+    ensures records { table.new ≡ padded no_record 64 (records 0 (fields_of (lines head.now))) }
 {
     let mut packer = Packer { out: buffer, to: 0 };
     let mut rest = head;
@@ -156,9 +156,10 @@ pub(crate) fn pack(head: &[u8], buffer: &mut [u8; BUFFER], table: &mut [Record; 
 }
 
 /// Leaves no field: zeros in the buffer and in the table.
+#[tactic(auto, unfolding(crate::specs::Packing::packed, crate::specs::Packing::records))]
 pub(crate) fn clear(buffer: &mut [u8; BUFFER], table: &mut [Record; TABLE])
-    ensures bytes { buffer.new ≡ buffer_after [] buffer.old }
-    ensures records { table.new ≡ table_after [] table.old }
+    ensures bytes { buffer.new ≡ padded 0 8192 (packed []) }
+    ensures records { table.new ≡ padded no_record 64 (records 0 []) }
 {
     buffer.fill(0);
     table.fill(NO_RECORD);

@@ -2,8 +2,9 @@ ghost use Rattle.std.specs.Prelude.{◌≡◌, false};
 ghost use Rattle.head.specs.Media.{quoted_content, content, parameter};
 ghost use Rattle.head.specs.MediaReads.{shown, shown_parameter, closes, token_of, multipart_type};
 
-use super::tokens::{find, is_token};
+use super::tokens::is_token;
 use crate::names::is_named;
+use crate::texts::find;
 
 /// Whether the text behind a '"' is the rest of a quoted string.
 fn is_closed(text: &[u8]) -> bool

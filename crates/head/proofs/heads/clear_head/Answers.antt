@@ -1,7 +1,7 @@
 use Rattle.std.proofs.Common.{[], ap, is_ok}
 use Rattle.std.proofs.lemmas.Option.{MatchOption-at_some, MatchOption-at_none}
 use Rattle.std.proofs.lemmas.Result.{err_from_is_err_and}
-use Rattle.head.proofs.HeadReads.{buffer_laid, table_laid, front_kept, front_length, is_cleared, not_cleared}
+use Rattle.head.proofs.HeadReads.{buffer_laid, table_laid, front_kept, is_cleared, not_cleared}
 use Rattle.head.proofs.heads.clear_head.Goals as goal
 
 pub returns-in_err-table : goal.returns-in_err-table
@@ -12,9 +12,7 @@ returns-in_err-table c =
 
 pub returns : goal.returns
 returns c =
-    let b = c.in_ok-buffer.buffer.now in
-    let t = c.in_ok-table.table.now in
     let f = MatchOption-at_some _ _ c.in_ok-buffer.buffer c.in_ok-buffer.ensures.ok_part c.first_chunk_mut.ensures.cases in
     let g = MatchOption-at_some _ _ c.in_ok-table.table c.in_ok-table.ensures.ok_part c.first_chunk_mut-2.ensures.cases in
-    is_cleared c.args.buffer.now c.args.table.now f.enough g.enough (buffer_laid [] b c.args.buffer.now (front_length f) c.clear.ensures.bytes)
-    (table_laid [] t c.args.table.now (front_length g) c.clear.ensures.records)
+    is_cleared c.args.buffer.now c.args.table.now f.enough g.enough (buffer_laid [] c.args.buffer.now c.clear.ensures.bytes)
+    (table_laid [] c.args.table.now c.clear.ensures.records)

@@ -1,9 +1,9 @@
-use Rattle.std.proofs.Common.{◌≡◌, sym, arith}
+use Rattle.std.proofs.Common.{◌≡◌, sym}
 use Rattle.std.proofs.lemmas.Option.{MatchOption-at_some, MatchOption-at_none}
 use Rattle.std.proofs.lemmas.Result.{err_from_is_err_and}
 use Rattle.head.specs.declared.heads.HeadError.TheVariants.{Short}
 use Rattle.head.specs.Heads.{head_says}
-use Rattle.head.proofs.HeadReads.{buffer_laid, table_laid, front_kept, front_length, is_read, not_read, on_ok, on_err}
+use Rattle.head.proofs.HeadReads.{buffer_laid, table_laid, front_kept, is_read, not_read, on_ok, on_err}
 use Rattle.head.proofs.heads.read_head.Goals as goal
 
 pub returns-in_err-table : goal.returns-in_err-table
@@ -21,8 +21,8 @@ returns-then-is_err c =
     let r = c.read_into-read in
     let none = on_err r.result (sym c.if-is_err.ensures.value) r.ensures.faulty in
     is_read c.args.buffer.now c.args.table.now c.args.around c.args.head.now r.ensures.answers f.enough g.enough
-    (buffer_laid (head_says c.args.around c.args.head.now).1 r.new.buffer c.args.buffer.now (omega (arith, front_length f)) (rw none c.clear.ensures.bytes))
-    (table_laid (head_says c.args.around c.args.head.now).1 r.new.table c.args.table.now (omega (arith, front_length g)) (rw none c.clear.ensures.records))
+    (buffer_laid (head_says c.args.around c.args.head.now).1 c.args.buffer.now (rw none c.clear.ensures.bytes))
+    (table_laid (head_says c.args.around c.args.head.now).1 c.args.table.now (rw none c.clear.ensures.records))
 
 pub returns-else-is_err : goal.returns-else-is_err
 returns-else-is_err c =
@@ -31,5 +31,5 @@ returns-else-is_err c =
     let r = c.read_into-read in
     let l = on_ok r.result (sym c.if-is_err.ensures.value) r.ensures.laid in
     is_read c.args.buffer.now c.args.table.now c.args.around c.args.head.now r.ensures.answers f.enough g.enough
-    (buffer_laid (head_says c.args.around c.args.head.now).1 c.in_ok-buffer.buffer.now c.args.buffer.now (front_length f) l.0)
-    (table_laid (head_says c.args.around c.args.head.now).1 c.in_ok-table.table.now c.args.table.now (front_length g) l.1)
+    (buffer_laid (head_says c.args.around c.args.head.now).1 c.args.buffer.now l.0)
+    (table_laid (head_says c.args.around c.args.head.now).1 c.args.table.now l.1)

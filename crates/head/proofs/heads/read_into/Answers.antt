@@ -8,7 +8,8 @@ use Rattle.head.specs.Entities.{Entity, leaf, group, refused, entity}
 use Rattle.head.specs.Fields.{Field, fields_of}
 use Rattle.head.specs.Heads.{opened, head_says}
 use Rattle.head.specs.Judging.{fault_number}
-use Rattle.head.specs.Packing.{buffer_after, table_after}
+use Rattle.head.specs.Packing.{packed, records, no_record}
+use Rattle.head.specs.Packs.{padded}
 use Rattle.head.proofs.HeadReads.{decided}
 use Rattle.head.proofs.heads.read_into.Goals as goal
 use Rattle.head.proofs.heads.read_into.Goals.{After-decide}
@@ -16,7 +17,7 @@ use Rattle.head.proofs.heads.read_into.Goals.{After-decide}
 -- what was decided over the packed fields, and what was packed, is what the head says
 said : (c : After-decide) (x : Entity) → x ≡ entity c.args.around c.new.result → opened x (fields_of (lines c.args.head.now)) ≡ head_says c.args.around c.args.head.now
 said c x e =
-    decided c.args.around c.pack-count.result c.in_ok-judge.field-0 x c.args.head.now c.args.buffer.now c.pack-count.new.buffer c.args.table.now c.pack-count.new.table c.in_ok-judge.ensures
+    decided c.args.around c.pack-count.result c.in_ok-judge.field-0 x c.args.head.now c.pack-count.new.buffer c.pack-count.new.table c.in_ok-judge.ensures
     c.pack-count.ensures.count c.pack-count.ensures.bytes c.pack-count.ensures.records (e ∙ ap (entity c.args.around) c.new.ensures)
 
 pub returns-in_err-coding-clause-answers : goal.returns-in_err-coding-clause-answers
@@ -39,8 +40,8 @@ returns-in-Leaf c =
       answers = ap (λ (k : ℕ). (1, k ∷ (coding_number c.in-Leaf.coding ∷ (c.in-Leaf.marks ∷ [])))) c.pack-count.ensures.count ∙ ap (λ (q : Answer × List Field). q.0) s;
       faulty = tt;
       laid = (
-        c.pack-count.ensures.bytes ∙ ap (λ (q : Answer × List Field). buffer_after q.1 c.args.buffer.now) s,
-        c.pack-count.ensures.records ∙ ap (λ (q : Answer × List Field). table_after q.1 c.args.table.now) s,
+        c.pack-count.ensures.bytes ∙ ap (λ (q : Answer × List Field). padded 0 8192 (packed q.1)) s,
+        c.pack-count.ensures.records ∙ ap (λ (q : Answer × List Field). padded no_record 64 (records 0 q.1)) s,
       );
     }
 
@@ -52,7 +53,7 @@ returns-in-Group c =
       answers = ap (λ (k : ℕ). (2, k ∷ boundary_bytes c.in-Group.boundary)) c.pack-count.ensures.count ∙ ap (λ (q : Answer × List Field). q.0) s;
       faulty = tt;
       laid = (
-        c.pack-count.ensures.bytes ∙ ap (λ (q : Answer × List Field). buffer_after q.1 c.args.buffer.now) s,
-        c.pack-count.ensures.records ∙ ap (λ (q : Answer × List Field). table_after q.1 c.args.table.now) s,
+        c.pack-count.ensures.bytes ∙ ap (λ (q : Answer × List Field). padded 0 8192 (packed q.1)) s,
+        c.pack-count.ensures.records ∙ ap (λ (q : Answer × List Field). padded no_record 64 (records 0 q.1)) s,
       );
     }

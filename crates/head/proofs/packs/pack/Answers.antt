@@ -2,7 +2,7 @@ use Rattle.std.proofs.Common.{◌≡◌, List, length, sym, refl, ap, ◌∙◌,
 use Rattle.byte_lines.specs.Lines.{lines}
 use Rattle.head.specs.Fields.{Field, fields_of}
 use Rattle.head.specs.Packing.{packed, records, no_record}
-use Rattle.head.proofs.Fills.{laid_fill}
+use Rattle.head.proofs.Fills.{padded_fill}
 use Rattle.head.proofs.PackingLaws.{length-records}
 use Rattle.head.proofs.Packings.{none_yet, one_more, all_done}
 use Rattle.head.proofs.Passing.{lawful}
@@ -28,6 +28,6 @@ returns c =
     record {
       few = omega arith;
       count = sym s.count ∙ ap length all;
-      bytes = laid_fill 0 8192 l.packer.to c.args.buffer.now l.packer.out.now (packed fs) c.fill.new.self c.told-buffer (omega arith) (s.puts.bytes ∙ ap packed all) size (omega arith) (c.fill.ensures.after (λ y e. e));
-      records = laid_fill no_record 64 l.n c.args.table.now l.table (records 0 fs) c.fill-2.new.self c.told-table s.wide (s.rows ∙ ap (records 0) all) (length-records 0 fs ∙ ap length (sym all) ∙ s.count) (omega arith) (c.fill-2.ensures.after (λ y e. e));
+      bytes = padded_fill 0 8192 l.packer.to l.packer.out.now (packed fs) c.fill.new.self (omega arith) (s.puts.bytes ∙ ap packed all) size (omega arith) (c.fill.ensures.after (λ y e. e));
+      records = padded_fill no_record 64 l.n l.table (records 0 fs) c.fill-2.new.self s.wide (s.rows ∙ ap (records 0) all) (length-records 0 fs ∙ ap length (sym all) ∙ s.count) (omega arith) (c.fill-2.ensures.after (λ y e. e));
     }
