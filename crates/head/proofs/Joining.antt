@@ -10,7 +10,7 @@ use Rattle.head.specs.declared.packs.Packer.{Packer}
 use Rattle.head.specs.Fields.{Gathered, continues, gathered, fields_of}
 use Rattle.head.specs.Packs.{stripped, Puts, MorePacked}
 use Rattle.head.proofs.Gathers.{more-none, gathered-more, len_width}
-use Rattle.head.proofs.TextTrims.{length_trim_start}
+use Rattle.head.proofs.Trims.{length_trim_start}
 use Rattle.head.proofs.Trims.{trim_start-none, trim_start_some}
 
 pub puts-nil : (p : Packer) → Puts p p []
@@ -63,16 +63,17 @@ pub more-none_yet : (base : ℕ) (text : Bytes) (p : Packer) → MoreSoFar base 
 more-none_yet base text p = record { done = []; puts = subst (Puts p p) (sym (stripped-nil (ltb base p.to))) (puts-nil p); joins = refl; fields = refl; fits = omega arith }
 
 -- one more line, with `behind` after it
-pub more-line : (base : ℕ) (text rest line behind : Bytes) (old mid new : Packer) (len w : ℕ) → base ≤ old.to → MoreSoFar base text rest old mid → continues rest ≡ true → FirstLine rest len w
-    → line ≡ take len rest → behind ≡ drop w rest → Puts mid new (stripped (ltb base mid.to) line) → MoreSoFar base text behind old new
-more-line base text rest line behind old mid new len w h m y f l b p =
-    let g : gathered (lines rest) ≡ record { more = line ++ (gathered (lines behind)).more; fields = fields_of (lines behind) } = rw (l, b) (gathered-more rest len w f y) in
+pub more-line : (base : ℕ) (text rest behind : Bytes) (old mid new : Packer) (len w : ℕ) → base ≤ old.to → MoreSoFar base text rest old mid → continues rest ≡ true → FirstLine rest len w → behind ≡ drop w rest
+    → Puts mid new (stripped (ltb base mid.to) (take len rest)) → MoreSoFar base text behind old new
+more-line base text rest behind old mid new len w h m y f b p =
+    let line = take len rest in
+    let g : gathered (lines rest) ≡ record { more = line ++ (gathered (lines behind)).more; fields = fields_of (lines behind) } = rw b (gathered-more rest len w f y) in
     record {
       done = m.done ++ line;
       puts = values_both base old mid new m.done line h m.puts p;
       joins = append_assoc m.done line (gathered (lines behind)).more ∙ ap (λ (x : Gathered). m.done ++ x.more) (sym g) ∙ m.joins;
       fields = m.fields ∙ ap (λ (x : Gathered). x.fields) g;
-      fits = omega (arith, m.fits, p.grows, length-stripped (ltb base mid.to) line, ap length l, length-take len rest, ap length b, length-drop w rest, f.within, len_width rest len w f);
+      fits = omega (arith, m.fits, p.grows, length-stripped (ltb base mid.to) line, length-take len rest, ap length b, length-drop w rest, f.within, len_width rest len w f);
     }
 
 -- no line continues any more

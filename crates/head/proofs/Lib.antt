@@ -1,7 +1,7 @@
 pub mod LineTests
 pub mod Founds
 pub mod TextScans
-pub mod TextTrims
+pub mod Places
 pub mod LawfulTexts
 pub mod MediaParts
 pub mod Quotes

@@ -5,6 +5,7 @@ use Rattle.std.specs.Char.{to_ascii_lowercase}
 use Rattle.std.specs.List.{list_all, zip}
 use Rattle.byte_lines.specs.Bytes.{Bytes}
 use Rattle.byte_lines.specs.Strings.{every, named}
+use Rattle.head.specs.Media.{token_byte, token}
 
 -- by the two answers of a test
 pub by_test : {P : Type 0} (t : Bool) → (t ≡ true → P) → (t ≡ false → P) → P
@@ -31,3 +32,8 @@ named_zip [] [] e = refl
 named_zip [] (c ∷ cs) e = absurd (omega arith)
 named_zip (b ∷ bs) [] e = absurd (omega arith)
 named_zip (b ∷ bs) (c ∷ cs) e = ap (λ (t : Bool). eqb b (to_ascii_lowercase c) && t) (named_zip bs cs (omega arith))
+
+-- a token has at least one byte, and all are a token's
+pub every-token : (s : Bytes) → 0 < length s → every token_byte s ≡ token s
+every-token [] h = absurd (omega arith)
+every-token (b ∷ bs) h = refl

@@ -11,6 +11,10 @@ abbrev pub stripped : (begun : Bool) → Bytes → Bytes
 stripped true s = s
 stripped false s = trim_start s
 
+-- a packer can take the text
+abbrev pub Room : Packer → Bytes → Type 0
+Room p text = p.to + length text ≤ length p.out.now
+
 -- a packer put more text
 pub record Puts (old new : Packer) (text : Bytes) : Type 0 where
   pub same : new.out.ghost_name ≡ old.out.ghost_name

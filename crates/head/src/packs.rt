@@ -4,7 +4,7 @@ ghost use Rattle.byte_lines.specs.Strings.{before, after, trim_end};
 ghost use Rattle.head.specs.Fields.{continues, fields_of};
 ghost use Rattle.head.specs.LineFaults.{judged, passes};
 ghost use Rattle.head.specs.Packing.{packed, records, no_record};
-ghost use Rattle.head.specs.Packs.{stripped, Puts, MorePacked, FieldPacked, padded};
+ghost use Rattle.head.specs.Packs.{Room, stripped, Puts, MorePacked, FieldPacked, padded};
 
 use crate::faults::continues_field;
 use crate::table::Record;
@@ -24,14 +24,14 @@ const NO_RECORD: Record = Record {
 };
 
 /// The text before the line's first ':', and the text behind it. A line without ':' is all name.
-#[tactic(auto, using(crate::proofs::TextTrims::before_none, crate::proofs::TextTrims::after_none))]
+#[tactic(auto, using(crate::proofs::Places::before_none, crate::proofs::Places::after_none))]
 fn split_name(line: &[u8]) -> (&[u8], &[u8])
     ensures name { result.0.now ≡ before 58 line.now }
     ensures value { result.1.now ≡ after 58 line.now }
     ensures within { length result.0.now + length result.1.now ≤ length line.now }
 {
     match find(b':', line) {
-        Some(i) => (&line[0..i], &line[i + 1..]),
+        Some(i) => (&line[..i], &line[i + 1..]),
         None => (line, &[]),
     }
 }
@@ -44,7 +44,7 @@ struct Packed<'a> {
     rest: &'a [u8],
 }
 
-/// Puts texts one behind the other, up to `to`.
+/// Puts texts one behind the other, the next one from `to` on.
 #[derive(Drop)]
 struct Packer<'a> {
     out: &'a mut [u8],
@@ -52,8 +52,9 @@ struct Packer<'a> {
 }
 
 impl Packer<'_> {
+    /// Puts the text behind what was put.
     fn put(&mut self, text: &[u8])
-        requires { self.old.to + length text.now ≤ length self.old.out.now }
+        requires { Room self.old text.now }
         ensures { Puts self.old self.new text.now }
     {
         let end = self.to + text.len();
@@ -62,9 +63,9 @@ impl Packer<'_> {
     }
 
     /// Puts more text of a value that begins at `base`. Blanks before its start are left out.
-    #[tactic(auto, using(crate::proofs::TextTrims::length_trim_start))]
+    #[tactic(auto, using(crate::proofs::Trims::length_trim_start))]
     fn put_value(&mut self, base: usize, text: &[u8])
-        requires { self.old.to + length text.now ≤ length self.old.out.now }
+        requires { Room self.old text.now }
         ensures puts { Puts self.old self.new (stripped (nat_lt base self.old.to) text.now) }
         ensures within { self.new.to ≤ self.old.to + length text.now }
     {
@@ -78,13 +79,13 @@ impl Packer<'_> {
     /// Puts the lines at the text's start that continue the field, whose value begins at `base`, and answers what stands behind them.
     fn put_more<'t>(&mut self, base: usize, text: &'t [u8]) -> &'t [u8]
         requires behind { base ≤ self.old.to }
-        requires fits { self.old.to + length text.now ≤ length self.old.out.now }
+        requires fits { Room self.old text.now }
         ensures { MorePacked base text.now result.now self.old self.new }
     {
         let mut rest = text;
         while continues_field(rest) {
             let line = first_line(rest);
-            self.put_value(base, &rest[0..line.len]);
+            self.put_value(base, &rest[..line.len]);
             rest = &rest[line.width..];
         }
         rest
@@ -105,11 +106,11 @@ impl Packer<'_> {
     fn pack_field<'h>(&mut self, head: &'h [u8]) -> Packed<'h>
         requires some { 0 < length head.now }
         requires starts { continues head.now ≡ false }
-        requires fits { self.old.to + length head.now ≤ length self.old.out.now }
+        requires fits { Room self.old head.now }
         ensures { FieldPacked head.now result.rest.now self.old self.new result.name result.value }
     {
         let line = first_line(head);
-        let (name, value) = split_name(&head[0..line.len]);
+        let (name, value) = split_name(&head[..line.len]);
         self.put(name);
         let base = self.to;
         self.put_value(base, value);

@@ -23,13 +23,13 @@ pub(crate) fn trimmed_end(text: &[u8]) -> &[u8]
     ensures { result.now ≡ trim_end text.now }
 {
     match text.iter().rposition(|b| !is_blank(*b)) {
-        Some(last) => &text[0..last + 1],
+        Some(last) => &text[..last + 1],
         None => &[],
     }
 }
 
 /// Where the first such byte stands.
-#[tactic(auto, using(crate::proofs::TextTrims::finds))]
+#[tactic(auto, using(crate::proofs::Places::finds))]
 pub(crate) fn find(sought: u8, text: &[u8]) -> Option<usize>
     ensures { Finds sought text.now result }
 {

@@ -50,6 +50,6 @@ pub(crate) fn lawful_boundary(text: &[u8]) -> Option<Boundary>
     }
     let len = text.len();
     let mut bytes = [0; LONGEST];
-    bytes[0..len].copy_from_slice(text);
+    bytes[..len].copy_from_slice(text);
     Some(Boundary { bytes, len })
 }

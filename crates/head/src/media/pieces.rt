@@ -46,13 +46,14 @@ fn piece_len(value: &[u8]) -> usize
 }
 
 /// The value's first piece, and what stands behind its ';'.
+#[tactic(auto, using(crate::proofs::Quotes::pieces_last))]
 pub(crate) fn first_piece(value: &[u8]) -> (&[u8], Option<&[u8]>)
     ensures splits { result.0.now ∷ later_pieces result.1 ≡ pieces outside value.now }
     ensures shorter { Shorter result.1 value.now }
 {
     let end = piece_len(value);
     if end < value.len() {
-        (&value[0..end], Some(&value[end + 1..]))
+        (&value[..end], Some(&value[end + 1..]))
     } else {
         (value, None)
     }

@@ -28,6 +28,6 @@ returns c =
     record {
       few = omega arith;
       count = sym s.count ∙ ap length all;
-      bytes = padded_fill 0 8192 l.packer.to l.packer.out.now (packed fs) c.fill.new.self (omega arith) (omega arith) (s.puts.bytes ∙ ap packed all) size (c.fill.ensures.after (λ y e. e));
-      records = padded_fill no_record 64 l.n l.table (records 0 fs) c.fill-2.new.self s.wide (omega arith) (s.rows ∙ ap (records 0) all) (length-records 0 fs ∙ ap length (sym all) ∙ s.count) (c.fill-2.ensures.after (λ y e. e));
+      bytes = padded_fill 0 8192 l.packer.to l.packer.out.now (packed fs) c.fill.new.self (omega arith) (s.puts.bytes ∙ ap packed all) size (omega arith) (c.fill.ensures.after (λ y e. e));
+      records = padded_fill no_record 64 l.n l.table (records 0 fs) c.fill-2.new.self s.wide (s.rows ∙ ap (records 0) all) (length-records 0 fs ∙ ap length (sym all) ∙ s.count) (omega arith) (c.fill-2.ensures.after (λ y e. e));
     }

@@ -1,6 +1,6 @@
 use Rattle.std.proofs.Common.{arith}
 use Rattle.std.proofs.lemmas.Grind.{common_steps}
-use Rattle.head.proofs.TextTrims.{trim_end_at, trim_end-blanks}
+use Rattle.head.proofs.Trims.{trim_end_at, trim_end-blanks}
 use Rattle.head.proofs.texts.trimmed_end.Goals as goal
 
 pub returns-in-Some : goal.returns-in-Some

@@ -1,6 +1,6 @@
 use Rattle.std.proofs.Common.{arith}
 use Rattle.std.proofs.lemmas.Grind.{common_steps}
-use Rattle.head.proofs.TextTrims.{trim_start_by}
+use Rattle.head.proofs.Trims.{trim_start_by}
 use Rattle.head.proofs.texts.trimmed_start.Goals as goal
 
 pub returns : goal.returns

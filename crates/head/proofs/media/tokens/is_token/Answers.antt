@@ -1,7 +1,7 @@
 use Rattle.std.proofs.Common.{◌∙◌, rules}
 use Rattle.head.specs.Media.{token_byte}
 use Rattle.head.proofs.TextScans.{every_by}
-use Rattle.head.proofs.TextTrims.{every-token}
+use Rattle.head.proofs.TextScans.{every-token}
 use Rattle.head.proofs.media.tokens.is_token.Goals as goal
 
 pub returns-then-not-is_empty : goal.returns-then-not-is_empty
