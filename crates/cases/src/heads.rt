@@ -1,5 +1,5 @@
 use coding::Coding;
-use head::{Boundary, Head, Record, read_head};
+use head::{Head, HeadError, Record, read_head};
 use std::alloc::Global;
 use std::process::Abort;
 use std::test::Fail;
@@ -12,17 +12,18 @@ const EMPTY: Record = Record {
 };
 
 /// What a head is read as.
-#[derive(Clone, Copy)]
-enum Expected {
+#[derive(Clone, Copy, PartialEq, Eq, Debug)]
+enum Expected<'a> {
     Leaf(u32, Coding, u32),
-    Group(u32, &'static [u8]),
+    Group(u32, &'a [u8]),
     Fault(u32, u32),
+    Refused,
 }
 
 #[derive(Clone, Copy)]
 struct Case {
     head: &'static [u8],
-    expected: Expected,
+    expected: Expected<'static>,
 }
 
 fn leaf(head: &'static [u8], fields: u32, marks: u32) -> Case {
@@ -53,54 +54,27 @@ fn fault(head: &'static [u8], number: u32, offset: u32) -> Case {
     }
 }
 
-fn is_leaf(expected: Expected, fields: u32, coding: Coding, marks: u32) -> bool {
-    match expected {
-        Expected::Leaf(f, c, m) => fields == f && coding == c && marks == m,
-        _ => false,
-    }
-}
-
-fn is_group(expected: Expected, fields: u32, boundary: Boundary) -> bool {
-    match expected {
-        Expected::Group(f, b) => fields == f && boundary.as_bytes() == b,
-        _ => false,
-    }
-}
-
-fn is_fault(expected: Expected, number: u32, offset: u32) -> bool {
-    match expected {
-        Expected::Fault(n, o) => number == n && offset == o,
-        _ => false,
-    }
-}
-
-fn matches_expected(rt: &impl Abort, head: Head, expected: Expected) -> Result<(), Fail> {
-    match head {
-        Head::Leaf {
-            fields,
-            coding,
-            marks,
-        } => {
-            assert!(rt; is_leaf(expected, fields, coding, marks));
-            Ok(())
-        },
-        Head::Group { fields, boundary } => {
-            assert!(rt; is_group(expected, fields, boundary));
-            Ok(())
-        },
-        Head::Fault { number, offset } => {
-            assert!(rt; is_fault(expected, number, offset));
-            Ok(())
-        },
-        Head::Short => Err(Fail::new("refused")),
+fn seen(read: &Result<Head, HeadError>) -> Expected {
+    match read {
+        Ok(
+            Head::Leaf {
+                fields,
+                coding,
+                marks,
+            },
+        ) => Expected::Leaf(*fields, *coding, *marks),
+        Ok(Head::Group { fields, boundary }) => Expected::Group(*fields, boundary.as_bytes()),
+        Err(HeadError::Fault(at)) => Expected::Fault(at.fault.number(), at.offset),
+        Err(HeadError::Short) => Expected::Refused,
     }
 }
 
 fn holds(rt: &impl Abort, case: &Case, around: u32) -> Result<(), Fail> {
     let mut buffer = [7; 8200];
     let mut table = [EMPTY; 65];
-    let head = read_head(case.head, around, &mut buffer, &mut table);
-    matches_expected(rt, head, case.expected)
+    let read = read_head(case.head, around, &mut buffer, &mut table);
+    assert_eq!(rt; seen(&read), case.expected);
+    Ok(())
 }
 
 fn all_hold(rt: &impl Abort, cases: &[Case]) -> Result<(), Fail> {
@@ -321,11 +295,9 @@ fn reads_long(
     assert_eq!(rt; head.len(), len);
     let mut buffer = [7; 8192];
     let mut table = [EMPTY; 64];
-    matches_expected(
-        rt,
-        read_head(head.as_slice(), 0, &mut buffer, &mut table),
-        expected,
-    )
+    let read = read_head(head.as_slice(), 0, &mut buffer, &mut table);
+    assert_eq!(rt; seen(&read), expected);
+    Ok(())
 }
 
 /// A head of 8,192 bytes passes and one of 8,193 does not, with and without its last CRLF; nor does one whose long line has a NUL.
@@ -352,11 +324,9 @@ fn reads_fields(
     head.extend_from_slice(last)?;
     let mut buffer = [7; 8192];
     let mut table = [EMPTY; 64];
-    matches_expected(
-        rt,
-        read_head(head.as_slice(), 0, &mut buffer, &mut table),
-        expected,
-    )
+    let read = read_head(head.as_slice(), 0, &mut buffer, &mut table);
+    assert_eq!(rt; seen(&read), expected);
+    Ok(())
 }
 
 /// 64 fields pass and a 65th does not; one that is no field is 42 all the same.
@@ -373,29 +343,28 @@ fn most_fields(rt: HostRuntime) -> Result<(), Fail> {
 fn packing(rt: HostRuntime) -> Result<(), Fail> {
     let mut buffer = [7; 8194];
     let mut table = [EMPTY; 65];
-    let head = read_head(
+    let read = read_head(
         b"Subject: \t a\r\n  b \r\nX:\r\n",
         0,
         &mut buffer,
         &mut table,
     );
-    matches_expected(&rt, head, Expected::Leaf(2, Coding::Plain, 0))?;
+    assert_eq!(rt; seen(&read), Expected::Leaf(2, Coding::Plain, 0));
     assert!(rt; &buffer[0..14] == b"Subjecta  bX\0\0".as_slice());
     assert!(rt; buffer[8190] == 0 && buffer[8191] == 0 && buffer[8192] == 7 && buffer[8193] == 7);
-    let Record {
-        name_start,
-        name_len,
-        value_start,
-        value_len,
-    } = table[0];
-    assert!(rt; name_start == 0 && name_len == 7 && value_start == 7 && value_len == 4);
-    let Record {
-        name_start,
-        name_len,
-        value_start,
-        value_len,
-    } = table[1];
-    assert!(rt; name_start == 11 && name_len == 1 && value_start == 12 && value_len == 0);
+    let subject = Record {
+        name_start: 0,
+        name_len: 7,
+        value_start: 7,
+        value_len: 4,
+    };
+    let x = Record {
+        name_start: 11,
+        name_len: 1,
+        value_start: 12,
+        value_len: 0,
+    };
+    assert!(rt; table[0] == subject && table[1] == x);
     assert!(rt; table[2].value_len == 0 && table[63].name_start == 0 && table[64].name_start == 9);
     Ok(())
 }
@@ -405,15 +374,12 @@ fn packing(rt: HostRuntime) -> Result<(), Fail> {
 fn short_buffers(rt: HostRuntime) {
     let mut buffer = [7; 8191];
     let mut table = [EMPTY; 64];
-    assert!(rt;
-        matches!(
-            read_head(b"X: y\r\n", 0, &mut buffer, &mut table),
-            Head::Short
-        )
-    );
+    let read = read_head(b"X: y\r\n", 0, &mut buffer, &mut table);
+    assert_eq!(rt; seen(&read), Expected::Refused);
     assert!(rt; buffer[0] == 7 && table[0].name_start == 9);
     let mut long = [7; 8192];
     let mut few = [EMPTY; 63];
-    assert!(rt; matches!(read_head(b"X: y\r\n", 0, &mut long, &mut few), Head::Short));
+    let read = read_head(b"X: y\r\n", 0, &mut long, &mut few);
+    assert_eq!(rt; seen(&read), Expected::Refused);
     assert!(rt; long[0] == 7 && few[0].name_start == 9);
 }

@@ -1,73 +1,23 @@
 -- The entity of a head, by the values of three of its fields.
-use Rattle.std.proofs.Common.{◌≡◌, ℕ, ◌<◌, ◌≤◌, Bool, true, false, ◌&&◌, ◌||◌, eqb, List, [], ◌∷◌, length, Some, None, codes, Option, sym, refl, ap, arith}
+use Rattle.std.proofs.Common.{◌≡◌, ℕ, ◌<◌, Bool, true, false, ◌&&◌, ◌||◌, eqb, ◌⊎◌, List, [], ◌∷◌, length, Some, None, codes, Option, Ok, Bor, sym, refl, ap, ◌∙◌, ⊎_elim}
 use Rattle.std.proofs.lemmas.Bool.{lt-ltb, or_left, or_right, or_from}
 use Rattle.byte_lines.specs.Bytes.{Bytes}
 use Rattle.byte_lines.specs.Strings.{named}
+use Rattle.coding.specs.declared.decoder.Coding.{Coding}
+use Rattle.head.specs.declared.faults.HeadFault.{HeadFault}
+use Rattle.head.specs.declared.faults.HeadFault.TheVariants.{Repeated}
 use Rattle.head.specs.Fields.{Field, values_of}
-use Rattle.head.specs.Media.{MediaType}
-use Rattle.head.specs.Entities.{Coded, Entity, refused, leaf_of, group_of, coding_of, boundary, boundaries, entity_of, typed_entity, twice, entity}
-use Rattle.head.specs.declared.opening.Values.{Values}
-use Rattle.head.specs.declared.opening.Values.TheVariants.{Absent, One, Many}
-use Rattle.head.specs.Openings.{entity_from, ValuesAre}
+use Rattle.head.specs.Judging.{fault_number}
+use Rattle.head.specs.Lookup.{ValueIs}
+use Rattle.head.specs.Media.{MediaType, media_type}
+use Rattle.head.specs.Entities.{Coded, Entity, refused, leaf_of, group_of, boundary, boundaries, entity_of, typed_entity, twice, entity}
+use Rattle.head.specs.Openings.{coded_by, entity_from, CodingIs}
 use Rattle.head.specs.Summaries.{summary, typed_summary}
 
-pub once_none : (vs : List Bytes) → vs ≡ [] → twice vs ≡ false
-once_none vs e = ap twice e
-
-pub once_one : (vs : List Bytes) (v : Bytes) → vs ≡ v ∷ [] → twice vs ≡ false
-once_one vs v e = ap twice e
-
-pub twice_many : (vs : List Bytes) → 1 < length vs → twice vs ≡ true
-twice_many vs h = lt-ltb 1 (length vs) h
-
-pub once_not_many : (r : Values) (vs : List Bytes) → ValuesAre r vs → (r ≡ Many → ⊥) → twice vs ≡ false
-once_not_many Absent vs e n = once_none vs e
-once_not_many (One v) vs e n = once_one vs v.now e
-once_not_many Many vs e n = absurd (n refl)
-
-abbrev coded_of : (a b c : Bool) → Coded
-coded_of a b c =
-    elim a [
-      | true ↦ record { coding = 0; mark = 0 }
-      | false ↦ elim b [ true ↦ record { coding = 1; mark = 0 } | false ↦ elim c [ true ↦ record { coding = 2; mark = 0 } | false ↦ record { coding = 0; mark = 2 } ] ]
-    ]
-
-mark_by : (a b c : Bool) → (coded_of a b c).mark ≤ 2
-mark_by true b c = omega arith
-mark_by false true c = omega arith
-mark_by false false true = omega arith
-mark_by false false false = omega arith
-
-pub mark_small : (vs : List Bytes) → (coding_of vs).mark ≤ 2
-mark_small [] = omega arith
-mark_small (v ∷ vs) = mark_by (named (codes "7bit") v || (named (codes "8bit") v || named (codes "binary") v)) (named (codes "quoted-printable") v) (named (codes "base64") v)
-
-module _ (around : ℕ) (fs : List Field) where
-  abbrev types : List Bytes
-  types = values_of (codes "content-type") fs
-
-  abbrev codings : List Bytes
-  codings = values_of (codes "content-transfer-encoding") fs
-
-  abbrev dispositions : List Bytes
-  dispositions = values_of (codes "content-disposition") fs
-
-  entity-refused : (twice types || (twice codings || twice dispositions)) ≡ true → entity around fs ≡ refused 44
-  unfolding entity
-  entity-refused h = rw (h, entity)
-
-  pub refused-types : twice types ≡ true → refused 44 ≡ entity around fs
-  refused-types h = sym (entity-refused (or_left (twice types) (twice codings || twice dispositions) h))
-
-  pub refused-codings : twice codings ≡ true → refused 44 ≡ entity around fs
-  refused-codings h = sym (entity-refused (or_right (twice types) (twice codings || twice dispositions) (or_left (twice codings) (twice dispositions) h)))
-
-  pub refused-dispositions : twice dispositions ≡ true → refused 44 ≡ entity around fs
-  refused-dispositions h = sym (entity-refused (or_right (twice types) (twice codings || twice dispositions) (or_right (twice codings) (twice dispositions) h)))
-
-  pub entity-typed : twice types ≡ false → twice codings ≡ false → twice dispositions ≡ false → entity around fs ≡ typed_entity around types (coding_of codings)
-  unfolding entity
-  entity-typed a b c = rw (or_from (twice types) (twice codings || twice dispositions) a (or_from (twice codings) (twice dispositions) b c), entity)
+-- a value that was found stands once
+pub once : (o : Option (Bor Bytes)) (vs : List Bytes) → ValueIs (Ok o) vs → twice vs ≡ false
+once None vs e = ap twice e
+once (Some v) vs e = ap twice e
 
 -- what a Content-Type says in short is enough
 typed_by : (around : ℕ) (t : MediaType) (c : Coded) (m : Bool)
@@ -81,3 +31,37 @@ typed_by around t c false = refl
 pub entity_short : (around : ℕ) (o : Option MediaType) (c : Coded) → entity_of around o c ≡ entity_from around (summary o) c
 entity_short around None c = refl
 entity_short around (Some t) c = typed_by around t c (named (codes "multipart") t.type)
+
+module _ (around : ℕ) (fs : List Field) where
+  abbrev pub types : List Bytes
+  types = values_of (codes "content-type") fs
+
+  abbrev pub codings : List Bytes
+  codings = values_of (codes "content-transfer-encoding") fs
+
+  abbrev pub dispositions : List Bytes
+  dispositions = values_of (codes "content-disposition") fs
+
+  -- one of the three stands twice
+  pub repeated : (f : HeadFault) → f ≡ Repeated → (1 < length types) ⊎ ((1 < length codings) ⊎ (1 < length dispositions)) → refused (fault_number f) ≡ entity around fs
+  unfolding entity
+  repeated f e more =
+      let both = twice codings || twice dispositions in
+      let t : (twice types || both) ≡ true =
+      ⊎_elim (λ h. or_left (twice types) both (lt-ltb 1 (length types) h))
+      (λ m. or_right (twice types) both
+      (⊎_elim (λ h. or_left (twice codings) (twice dispositions) (lt-ltb 1 (length codings) h)) (λ h. or_right (twice codings) (twice dispositions) (lt-ltb 1 (length dispositions) h)) m))
+      more in
+      rw (e, t, entity)
+
+  module _ (c : Option Coding) (coding : CodingIs (Ok c) codings) (o : Option (Bor Bytes)) (disposition : ValueIs (Ok o) dispositions) where
+    entity-typed : twice types ≡ false → entity around fs ≡ typed_entity around types (coded_by c)
+    unfolding entity
+    entity-typed t = rw (or_from (twice types) (twice codings || twice dispositions) t (or_from (twice codings) (twice dispositions) coding.0 (once o dispositions disposition)), entity) (ap (typed_entity around types) (sym coding.1))
+
+    -- none or one Content-Type
+    pub decided_none : types ≡ [] → leaf_of (coded_by c) 0 ≡ entity around fs
+    decided_none e = sym (entity-typed (ap twice e) ∙ ap (λ (vs : List Bytes). typed_entity around vs (coded_by c)) e)
+
+    pub decided_one : (v : Bytes) → types ≡ v ∷ [] → entity_from around (summary (media_type v)) (coded_by c) ≡ entity around fs
+    decided_one v e = sym (entity-typed (ap twice e) ∙ ap (λ (vs : List Bytes). typed_entity around vs (coded_by c)) e ∙ entity_short around (media_type v) (coded_by c))

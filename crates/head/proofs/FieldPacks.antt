@@ -1,82 +1,63 @@
 -- A field that was put: its name, and then its value.
-use Rattle.std.proofs.Common.{◌≡◌, ℕ, suc, ◌+◌, ◌-◌, ◌<◌, ◌≤◌, min, false, List, [], ◌∷◌, ◌++◌, length, take, drop, sym, refl, ap, ◌∙◌, ⊎_elim, append-nil, arith}
-use Rattle.std.proofs.lemmas.List.{append_assoc, take-append-drop, take_at, drop_at, take-take, drop-drop, drop_all, length-append, length-take-le, length-drop}
+use Rattle.std.proofs.Common.{◌≡◌, ℕ, ◌+◌, ◌-◌, ◌<◌, ◌≤◌, Bool, false, ltb, List, ◌∷◌, ◌++◌, length, take, drop, sym, ap, ◌∙◌, subst, arith}
+use Rattle.std.proofs.lemmas.List.{drop_at, take-take, length-take, length-take-le, length-drop}
 use Rattle.std.proofs.lemmas.Slice.{between_is}
-use Rattle.std.proofs.lemmas.Bool.{cases_lt}
+use Rattle.std.proofs.lemmas.Bool.{le-ltb}
+use Rattle.std.proofs.Math.Seq.{take-append-add}
 use Rattle.byte_lines.specs.Bytes.{Bytes}
 use Rattle.byte_lines.specs.Lines.{lines}
 use Rattle.byte_lines.specs.Spans.{FirstLine}
 use Rattle.byte_lines.specs.Strings.{before, after, trim_start, trim_end, trim}
-use Rattle.head.specs.Fields.{Field, continues, field, gathered, fields_of}
-use Rattle.head.specs.Packs.{Joins, MorePacked, FieldPacked}
-use Rattle.head.proofs.Trims.{take-before, length_before, drop-after, trim_other}
-use Rattle.head.proofs.Gathers.{gathered-first, len_width}
+use Rattle.head.specs.declared.packs.Packer.{Packer}
+use Rattle.head.specs.Fields.{Field, continues, field, gathered}
+use Rattle.head.specs.Packs.{stripped, Puts, MorePacked, FieldPacked}
+use Rattle.head.proofs.Gathers.{gathered-first}
+use Rattle.head.proofs.Joining.{puts_both, values_both, length-stripped}
+use Rattle.head.proofs.Trims.{trim_other, take-trim_end}
 
-trim_start-nil : trim_start [] ≡ []
-unfolding trim_start
-trim_start-nil = refl
+module _ (old new : Packer) (t : Bytes) (within : old.to ≤ length old.out.now) (p : Puts old new t) where
+  -- what was put last stands behind what was put before
+  part_put : take (new.to - old.to) (drop old.to new.out.now) ≡ t
+  part_put = between_is new.out.now old.to new.to ∙ ap (drop old.to) p.bytes ∙ drop_at (take old.to old.out.now) t old.to (length-take-le old.to old.out.now within)
 
-take_past : (p s : Bytes) (n k : ℕ) → length p ≡ n → k ≤ length s → take (n + k) (p ++ s) ≡ p ++ take k s
-take_past p s n k e le =
-    let a = length-append p (take k s) in
-    let b = length-take-le k s le in
-    ap (λ (l : Bytes). take (n + k) (p ++ l)) (sym (take-append-drop k s)) ∙ ap (take (n + k)) (sym (append_assoc p (take k s) (drop k s))) ∙ take_at (p ++ take k s) (drop k s) (n + k) (omega arith)
-
--- the text behind ':' of a line's text, and none where the line has no ':'
-behind_name : (line : Bytes) (len name : ℕ) → length line ≡ len → name ≡ length (before 58 line) → drop (min (name + 1) len) line ≡ after 58 line
-behind_name line len name l e =
-    let d = drop-after 58 line in
-    ⊎_elim (λ lt. let z : min (name + 1) len ≡ suc (length (before 58 line)) = omega arith in ap (λ (k : ℕ). drop k line) z ∙ d)
-    (λ le. drop_all (min (name + 1) len) line (omega arith) ∙ sym (drop_all (suc (length (before 58 line))) line (omega arith)) ∙ d) (cases_lt name len)
-
-module _ (head old a b new : Bytes) (at len w name base from begun mw to value : ℕ) where
-  pub field-packed :
-      FirstLine head len w → 0 < length head → continues head ≡ false → name ≡ length (before 58 (take len head)) → base ≡ at + name → from ≡ min (name + 1) len → at + length head ≤ length old
-      → length a ≡ length old → length b ≡ length old → length new ≡ length old
-      → take base a ≡ take at old ++ take name head
-      → Joins a b base base begun (take (len - from) (drop from head)) → base ≤ begun → begun ≤ base + (len - from)
-      → MorePacked (drop w head) b new base begun mw to
-      → value ≤ to - base → take value (take (to - base) (drop base new)) ≡ trim_end (take (to - base) (drop base new))
-      → FieldPacked head old new at (w + mw) name value
-  field-packed f some starts is_name is_base is-from room la lb ln put-name joins grows short more fits trims =
-      let line = take len head in
-      let text = take (len - from) (drop from head) in
-      let rest = (gathered (lines (drop w head))).more in
-      let p = take base a in
-      let lw = len_width head len w f in
-      let in_head = f.within in
-      let ll : length line ≡ len = length-take-le len head (omega arith) in
-      let name-le : name ≤ len = omega (arith, length_before 58 line) in
-      let mwithin = more.within in
-      let mgrows = more.grows in
-      let mfits = more.fits in
-      let ldw = length-drop w head in
-      let lp : length p ≡ base = length-take-le base a (omega arith) in
-      let names : take name head ≡ before 58 line = sym (take-take name len head name-le) ∙ ap (λ (k : ℕ). take k line) is_name ∙ take-before 58 line in
-      let texts : text ≡ after 58 line = between_is head from len ∙ ap (λ (k : ℕ). drop k line) is-from ∙ behind_name line len name ll is_name in
-      let v = trim_start (text ++ rest) in
-      let begins : take begun b ≡ p ++ trim_start text = joins p [] lp (sym (append-nil p) ∙ ap (λ (l : Bytes). p ++ l) (sym trim_start-nil)) in
-      let whole : take to new ≡ p ++ v = more.joins p text lp begins in
-      let lt : length (take to new) ≡ to = length-take-le to new (omega arith) in
-      let lpv = length-append p v in
-      let lv : length v ≡ to - base = let q = ap length whole in omega arith in
-      let part : take (to - base) (drop base new) ≡ v = between_is new base to ∙ ap (drop base) whole ∙ drop_at p v base lp in
-      let cut : take value v ≡ trim (text ++ rest) = ap (take value) (sym part) ∙ trims ∙ ap trim_end part ∙ trim_other (text ++ rest) in
-      let is-value : trim (text ++ rest) ≡ trim (after 58 line ++ rest) = ap (λ (l : Bytes). trim (l ++ rest)) texts in
-      let at_end_lem : at + name + value ≡ base + value = omega arith in
-      let within-to : base + value ≤ to = omega arith in
-      let lvalue = length-take-le value v (omega arith) in
+  -- a packer that goes back behind the first k bytes that it put last
+  cut_put : (k : ℕ) → k ≤ length t → Puts old (record new { to = old.to + k }) (take k t)
+  cut_put k h =
+      let front = take old.to old.out.now in
+      let n : old.to + k ≡ length front + k = omega (arith, length-take-le old.to old.out.now within) in
       record {
-        first = field line rest;
-        splits = gathered-first head len w f some starts ∙ ap (λ (l : List Field). field line rest ∷ l) (more.rest ∙ ap (λ (l : Bytes). fields_of (lines l)) (drop-drop mw w head));
-        named = sym is_name;
-        valued = sym (ap length (cut ∙ is-value)) ∙ lvalue;
-        bytes =
-            ap (λ (k : ℕ). take k new) at_end_lem ∙ sym (take-take (base + value) to new within-to) ∙ ap (take (base + value)) whole ∙ take_past p v base value lp (omega arith)
-            ∙ ap (λ (l : Bytes). p ++ l) (cut ∙ is-value) ∙ ap (λ (l : Bytes). l ++ trim (after 58 line ++ rest)) (put-name ∙ ap (λ (l : Bytes). take at old ++ l) names)
-            ∙ append_assoc (take at old) (before 58 line) (trim (after 58 line ++ rest));
-        within = omega arith;
-        some = omega (arith, f.some some);
-        fits = omega arith;
-        ends = ap continues (sym (drop-drop mw w head)) ∙ more.ends;
+        same = p.same;
+        long = p.long;
+        grows = omega (arith, length-take-le k t h);
+        bytes = sym (take-take (old.to + k) new.to new.out.now (omega (arith, p.grows))) ∙ ap (take (old.to + k)) p.bytes ∙ ap (λ (m : ℕ). take m (front ++ t)) n ∙ take-append-add front t k;
+      }
+
+module _ (head name value rest : Bytes) (p q r s : Packer) (len w n : ℕ) where
+  pub field-packed :
+      FirstLine head len w → 0 < length head → continues head ≡ false → name ≡ before 58 (take len head) → value ≡ after 58 (take len head) → p.to + length head ≤ length p.out.now
+      → q.to + length value + length (drop w head) ≤ p.to + length head
+      → Puts p q name → Puts q r (stripped (ltb q.to q.to) value) → MorePacked q.to (drop w head) rest r s → n ≡ length (trim_end (take (s.to - q.to) (drop q.to s.out.now)))
+      → FieldPacked head rest p (record s { to = q.to + n }) (length name) n
+  field-packed f some starts is_name is-value room fits pq qr rs e =
+      let line = take len head in
+      let more = (gathered (lines (drop w head))).more in
+      let text = trim_start (value ++ more) in
+      let back = record s { to = q.to + n } in
+      let whole = values_both q.to q r s value more (omega arith) qr rs.puts in
+      let qs : Puts q s text = subst (λ (t : Bool). Puts q s (stripped t (value ++ more))) (le-ltb q.to q.to (omega arith)) whole in
+      let within : q.to ≤ length q.out.now = omega (arith, pq.long) in
+      let len_is : n ≡ length (trim_end text) = e ∙ ap (λ (l : Bytes). length (trim_end l)) (part_put q s text within qs) in
+      let cut : take n text ≡ trim_end text = ap (λ (k : ℕ). take k text) len_is ∙ take-trim_end text in
+      let short : n ≤ length text = omega (arith, ap length cut, length-take n text) in
+      let last : trim_end text ≡ trim (after 58 line ++ more) = trim_other (value ++ more) ∙ ap (λ (l : Bytes). trim (l ++ more)) is-value in
+      let put-value = subst (Puts q back) (cut ∙ last) (cut_put q s text within qs n short) in
+      record {
+        first = field line more;
+        splits = gathered-first head len w f some starts ∙ ap (λ (l : List Field). field line more ∷ l) rs.fields;
+        named = ap length (sym is_name);
+        valued = ap length (sym last) ∙ sym len_is;
+        puts = subst (λ (l : Bytes). Puts p back (l ++ trim (after 58 line ++ more))) is_name (puts_both p q back name (trim (after 58 line ++ more)) pq put-value);
+        shorter = omega (arith, rs.fits, rs.puts.grows, length-drop w head, f.some some);
+        fits = omega (arith, rs.fits, qs.grows, qr.grows, length-stripped (ltb q.to q.to) value);
+        ends = rs.ends;
       }

@@ -1,8 +1,7 @@
-pub mod Scans
-pub mod Verdicts
+pub mod LineTests
 pub mod Founds
 pub mod TextScans
-pub mod TextTrims
+pub mod Places
 pub mod LawfulTexts
 pub mod MediaParts
 pub mod Quotes
@@ -17,4 +16,3 @@ pub mod Passing
 pub mod Trims
 pub mod HeadReads
 pub mod Canonical
-pub mod Sayings

@@ -1,39 +1,18 @@
 -- What the parts of a Content-Type make of it.
-use Rattle.std.proofs.Common.{◌≡◌, ℕ, suc, ◌+◌, ◌-◌, ◌<◌, Bool, true, false, ◌&&◌, List, [], ◌∷◌, length, get_or, take, drop, Some, None, codes, Option, sym, refl, ap, ◌∙◌, arith, Bor}
-use Rattle.std.proofs.lemmas.List.{take_rest}
-use Rattle.std.proofs.lemmas.Bool.{eq-eqb, and_right, and_from, false≢true}
+use Rattle.std.proofs.Common.{◌≡◌, ℕ, suc, true, false, List, [], ◌∷◌, length, Some, None, codes, Option, sym, refl, ap, ◌∙◌, Bor}
+use Rattle.std.specs.Option.{option_flatten}
+use Rattle.std.proofs.lemmas.Bool.{and_from, false≢true}
 use Rattle.byte_lines.specs.Bytes.{Bytes}
 use Rattle.byte_lines.specs.Strings.{has, before, after, trim, named}
+use Rattle.head.specs.declared.boundary.Boundary.{Boundary}
+use Rattle.head.specs.BoundaryBytes.{boundary_of}
 use Rattle.head.specs.Entities.{boundaries, boundary}
-use Rattle.head.specs.Media.{token, quoted_content, content, Parameter, parameter_of, parameter, Quote, outside, onto_piece, quote_after, pieces, join_parameter, parameters, media_of, is_type, typed}
-use Rattle.head.specs.Summaries.{Summary, broken, typed_summary, summary}
-use Rattle.head.specs.MediaReads.{At, ends_piece, later_pieces, Shorter, multipart_type, ends_parameters, boundary_in, noted}
+use Rattle.head.specs.Media.{token, content, Parameter, parameter_of, parameter, Quote, outside, onto_piece, quote_after, pieces, join_parameter, parameters}
+use Rattle.head.specs.MediaReads.{ends_piece, later_pieces, ends_parameters, found_of, noted}
 use Rattle.head.proofs.TextScans.{by_test}
-
--- the slices before and behind the first b
-pub front_slice : {b : ℕ} {s : Bytes} {i : ℕ} → At b s i → take (i - 0) s ≡ before b s
-front_slice {b} {s} {i} a = let z : i - 0 ≡ i = omega arith in ap (λ (m : ℕ). take m s) z ∙ sym a.front
-
-pub back_slice : {b : ℕ} {s : Bytes} {i : ℕ} → At b s i → take (length s - (i + 1)) (drop (i + 1) s) ≡ after b s
-back_slice {b} {s} {i} a = take_rest s (i + 1) ∙ sym a.back
-
-pub content-quoted : (s : Bytes) → 0 < length s → get_or s 0 0 ≡ 34 → content s ≡ quoted_content (drop 1 s)
-content-quoted [] h e = absurd (omega arith)
-content-quoted (b ∷ bs) h e = rw (content, eq-eqb b 34 e)
 
 pub parameter_is : (s : Bytes) → has 61 s ≡ true → token (before 61 s) ≡ true → parameter s ≡ parameter_of (before 61 s) (content (after 61 s))
 parameter_is s h t = rw (parameter, and_from (has 61 s) (token (before 61 s)) h t)
-
-pub parameter_not : (s : Bytes) → token (before 61 s) ≡ false → parameter s ≡ None
-parameter_not s f = rw (parameter, and_right (has 61 s) (token (before 61 s)) f)
-
-pub type_is : (s : Bytes) → has 47 s ≡ true → token (before 47 s) ≡ true → token (after 47 s) ≡ true → multipart_type s ≡ Some (named (codes "multipart") (before 47 s))
-type_is s h t u =
-    let e : is_type s ≡ true = and_from (has 47 s) (token (before 47 s) && token (after 47 s)) h (and_from (token (before 47 s)) (token (after 47 s)) t u) in
-    rw (multipart_type, e)
-
-pub type_not : (s : Bytes) → (token (before 47 s) && token (after 47 s)) ≡ false → multipart_type s ≡ None
-type_not s f = let e : is_type s ≡ false = and_right (has 47 s) (token (before 47 s) && token (after 47 s)) f in rw (multipart_type, e)
 
 -- a value has at least one piece
 some_piece : (q : Quote) (s : Bytes) → (p : Bytes) × ((ps : List Bytes) × (pieces q s ≡ p ∷ ps))
@@ -62,72 +41,40 @@ parameters-more s (Some r) f =
     let p = some_piece outside r.now in
     ap (λ (l : List Bytes). parameters (s ∷ l)) p.1.1 ∙ ap (λ (l : List Bytes). join_parameter (parameter (trim s)) (parameters l)) (sym p.1.1)
 
--- the boundary among more values of that name, where it is o so far
-abbrev pub joins : (seen : Bool) → Option Bytes → List Bytes → Option Bytes
-joins seen o [] = o
-joins true o (b ∷ bs) = None
-joins false o (b ∷ bs) = boundary (b ∷ bs)
+-- the boundary among more values of that name, where those before them gave o, if there were any
+abbrev pub joins : Option (Option Bytes) → List Bytes → Option Bytes
+joins None bs = boundary bs
+joins (Some o) [] = o
+joins (Some o) (b ∷ bs) = None
 
 -- the same, among more parameters
-abbrev pub verdict : (seen : Bool) → Option Bytes → Option (List Parameter) → Option (Option Bytes)
-verdict seen o None = None
-verdict seen o (Some ps) = Some (joins seen o (boundaries ps))
+abbrev pub verdict : Option (Option Bytes) → Option (List Parameter) → Option (Option Bytes)
+verdict o None = None
+verdict o (Some ps) = Some (joins o (boundaries ps))
 
-joins_start : (bs : List Bytes) → joins false None bs ≡ boundary bs
-joins_start [] = refl
-joins_start (b ∷ bs) = refl
-
-pub verdict_start : (ps : Option (List Parameter)) → verdict false None ps ≡ boundary_in ps
-verdict_start None = refl
-verdict_start (Some ps) = ap (λ (o : Option Bytes). Some o) (joins_start (boundaries ps))
-
-pub verdict_end : (seen : Bool) (o : Option Bytes) → verdict seen o (Some []) ≡ Some o
+pub verdict_end : (f : Option (Option Boundary)) → verdict (found_of f) (Some []) ≡ Some (boundary_of (option_flatten f))
 unfolding boundaries
-verdict_end seen o = refl
+verdict_end None = refl
+verdict_end (Some b) = refl
 
-pub verdict_other : (seen : Bool) (o : Option Bytes) (p : Parameter) (ps : Option (List Parameter)) → named (codes "boundary") p.name ≡ false
-    → verdict seen o (join_parameter (Some p) ps) ≡ verdict seen o ps
+pub verdict_other : (o : Option (Option Bytes)) (p : Parameter) (ps : Option (List Parameter)) → named (codes "boundary") p.name ≡ false → verdict o (join_parameter (Some p) ps) ≡ verdict o ps
 unfolding boundaries
-verdict_other seen o p None f = refl
-verdict_other seen o p (Some ps) f = let e : boundaries (p ∷ ps) ≡ boundaries ps = rw (boundaries, f) in ap (λ (l : List Bytes). Some (joins seen o l)) e
+verdict_other o p None f = refl
+verdict_other o p (Some ps) f = let e : boundaries (p ∷ ps) ≡ boundaries ps = rw (boundaries, f) in ap (λ (l : List Bytes). Some (joins o l)) e
 
-joins-more : (seen : Bool) (o : Option Bytes) (b : Bytes) (bs : List Bytes) → joins seen o (b ∷ bs) ≡ joins true (noted seen b) bs
-joins-more true o b [] = refl
-joins-more true o b (c ∷ bs) = refl
-joins-more false o b [] = refl
-joins-more false o b (c ∷ bs) = refl
+joins-more : (o : Option (Option Bytes)) (b : Bytes) (bs : List Bytes) → joins o (b ∷ bs) ≡ joins (Some (noted o b)) bs
+joins-more None b [] = refl
+joins-more None b (c ∷ bs) = refl
+joins-more (Some o) b [] = refl
+joins-more (Some o) b (c ∷ bs) = refl
 
-pub verdict-boundary : (seen : Bool) (o : Option Bytes) (p : Parameter) (ps : Option (List Parameter)) → named (codes "boundary") p.name ≡ true
-    → verdict seen o (join_parameter (Some p) ps) ≡ verdict true (noted seen p.value) ps
+pub verdict-boundary : (o : Option (Option Bytes)) (p : Parameter) (ps : Option (List Parameter)) → named (codes "boundary") p.name ≡ true
+    → verdict o (join_parameter (Some p) ps) ≡ verdict (Some (noted o p.value)) ps
 unfolding boundaries
-verdict-boundary seen o p None t = refl
-verdict-boundary seen o p (Some ps) t =
+verdict-boundary o p None t = refl
+verdict-boundary o p (Some ps) t =
     let e : boundaries (p ∷ ps) ≡ p.value ∷ boundaries ps = rw (boundaries, t) in
-    ap (λ (l : List Bytes). Some (joins seen o l)) e ∙ ap (λ (b : Option Bytes). Some b) (joins-more seen o p.value (boundaries ps))
-
--- the whole, from its type and its parameters' boundary
-abbrev pub summarized : (is_multipart : Bool) → Option (Option Bytes) → Summary
-summarized m None = broken
-summarized m (Some b) = typed_summary m b
-
-summary_of : (t : Bytes) (ps : Option (List Parameter)) → summary (media_of t ps) ≡ summarized (named (codes "multipart") t) (boundary_in ps)
-summary_of t None = refl
-summary_of t (Some ps) = refl
-
-pub summary-broken : (s : Bytes) (ss : List Bytes) → None ≡ multipart_type (trim s) → summary (typed (s ∷ ss)) ≡ broken
-summary-broken s ss e =
-    by_test (is_type (trim s)) (λ t. let g : multipart_type (trim s) ≡ Some (named (codes "multipart") (before 47 (trim s))) = rw (multipart_type, t) in let z : ◌≡◌ {A = ℕ} 0 1 = cc in absurd (omega arith))
-    (λ f. let g : typed (s ∷ ss) ≡ None = rw (typed, f) in ap summary g)
-
-pub summary-typed : (s : Bytes) (ss : List Bytes) (m : Bool) → Some m ≡ multipart_type (trim s) → summary (typed (s ∷ ss)) ≡ summarized m (boundary_in (parameters ss))
-summary-typed s ss m e =
-    by_test (is_type (trim s))
-    (λ t. let k = named (codes "multipart") (before 47 (trim s)) in
-    let g : multipart_type (trim s) ≡ Some k = rw (multipart_type, t) in
-    let q : k ≡ m = cc in
-    let h : typed (s ∷ ss) ≡ media_of (before 47 (trim s)) (parameters ss) = rw (typed, t) in
-    ap summary h ∙ summary_of (before 47 (trim s)) (parameters ss) ∙ ap (λ (b : Bool). summarized b (boundary_in (parameters ss))) q)
-    (λ f. let g : multipart_type (trim s) ≡ None = rw (multipart_type, f) in let z : ◌≡◌ {A = ℕ} 0 1 = cc in absurd (omega arith))
+    ap (λ (l : List Bytes). Some (joins o l)) e ∙ ap (λ (b : Option Bytes). Some b) (joins-more o p.value (boundaries ps))
 
 -- how much is left to read, for a loop's measure
 abbrev pub left_of : Option (Bor Bytes) → ℕ
@@ -146,8 +93,3 @@ module _ (rest later : Option (Bor Bytes)) (text : Bor Bytes) (piece trimmed : B
   left-more f p e =
       left_is ∙ parameters-more piece later (ap (λ (s : Bytes). ends_parameters s later) (sym clean) ∙ sym f)
       ∙ ap (λ (q : Option Parameter). join_parameter q (parameters (later_pieces later))) (ap parameter (sym clean) ∙ sym e)
-
--- less is left behind a piece
-pub left_less : (rest later : Option (Bor Bytes)) (text : Bor Bytes) → rest ≡ Some text → Shorter later text.now → left_of later < left_of rest
-left_less rest None text e h = omega (arith, ap left_of e)
-left_less rest (Some r) text e h = omega (arith, ap left_of e)

@@ -8,7 +8,7 @@ use Rattle.byte_lines.specs.Strings.{has, every, before}
 use Rattle.head.specs.Fields.{Gathered, is_field, continues, gathered, fields_of}
 use Rattle.head.specs.LineFaults.{Verdict, passes, faulty, unclean, judged}
 use Rattle.head.proofs.Gathers.{starts_more, starts_lines, gathered_on, gathered_new}
-use Rattle.head.proofs.Trims.{before_here, before_there}
+use Rattle.head.proofs.Places.{before_here, before_there}
 
 -- the lines of a text take all its bytes
 widths : List Line → ℕ

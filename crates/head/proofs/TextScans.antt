@@ -1,50 +1,39 @@
--- Tests of a text, byte by byte from its start.
-use Rattle.std.proofs.Common.{◌≡◌, ℕ, ◌+◌, ◌<◌, ◌≤◌, Bool, true, false, ◌&&◌, eqb, [], ◌∷◌, length, get_or, drop, sym, refl, ap, ◌∙◌, arith}
+-- Tests of a text.
+use Rattle.std.proofs.Common.{◌≡◌, ℕ, ◌<◌, Bool, true, false, ◌&&◌, MatchBool, eqb, [], ◌∷◌, length, get_or, suc, zero, refl, sym, ap, ◌∙◌, arith}
+use Rattle.std.proofs.lemmas.Bool.{and_left, and_right}
 use Rattle.std.specs.Char.{to_ascii_lowercase}
-use Rattle.std.proofs.lemmas.List.{drop_more, drop_all}
-use Rattle.std.proofs.lemmas.Bool.{and_left, eq-eqb, ne_eqb}
+use Rattle.std.specs.List.{list_all, zip}
 use Rattle.byte_lines.specs.Bytes.{Bytes}
 use Rattle.byte_lines.specs.Strings.{every, named}
+use Rattle.head.specs.Media.{token_byte, token}
 
 -- by the two answers of a test
 pub by_test : {P : Type 0} (t : Bool) → (t ≡ true → P) → (t ≡ false → P) → P
 by_test true f g = f refl
 by_test false f g = g refl
 
-pub every_at : (p : ℕ → Bool) (s : Bytes) (i : ℕ) → i < length s → every p (drop i s) ≡ (p (get_or s i 0) && every p (drop (i + 1) s))
-every_at p s i h = ap (every p) (drop_more s i 0 h)
+all_pass : (p : ℕ → Bool) (s : Bytes) → ((k : ℕ) → k < length s → p (get_or s k 0) ≡ true) → every p s ≡ true
+all_pass p [] all = refl
+all_pass p (b ∷ bs) all = ap (λ (t : Bool). t && every p bs) (all 0 (omega arith)) ∙ all_pass p bs (λ k h. all (suc k) (omega arith))
 
-pub every_more : (p : ℕ → Bool) (s : Bytes) (i : ℕ) → i < length s → p (get_or s i 0) ≡ true → every p (drop (i + 1) s) ≡ every p (drop i s)
-every_more p s i h t = sym (every_at p s i h ∙ ap (λ (b : Bool). b && every p (drop (i + 1) s)) t)
+one_fails : (p : ℕ → Bool) (s : Bytes) (k : ℕ) → k < length s → p (get_or s k 0) ≡ false → every p s ≡ false
+one_fails p [] k h fails = absurd (omega arith)
+one_fails p (b ∷ bs) zero h fails = and_left (p b) (every p bs) fails
+one_fails p (b ∷ bs) (suc k) h fails = and_right (p b) (every p bs) (one_fails p bs k (omega arith) fails)
 
-pub every-stops : (p : ℕ → Bool) (s : Bytes) (i : ℕ) → i < length s → p (get_or s i 0) ≡ false → every p (drop i s) ≡ false
-every-stops p s i h f = every_at p s i h ∙ and_left (p (get_or s i 0)) (every p (drop (i + 1) s)) f
+-- what `all` says of a test
+pub every_by : (p : ℕ → Bool) (s : Bytes) (r : Bool) → MatchBool r ((k : ℕ) → k < length s → p (get_or s k 0) ≡ true) ((k : ℕ) × (k < length s) × (p (get_or s k 0) ≡ false)) → r ≡ every p s
+every_by p s true all = sym (all_pass p s all)
+every_by p s false one = sym (one_fails p s one.0 one.1 one.2)
 
-pub every-ends : (p : ℕ → Bool) (s : Bytes) (i : ℕ) → length s ≤ i → every p (drop i s) ≡ true
-every-ends p s i h = ap (every p) (drop_all i s h)
+-- letters of two texts of one length, pair by pair
+pub named_zip : (word s : Bytes) → length word ≡ length s → list_all (λ (p : ℕ × ℕ). eqb p.0 (to_ascii_lowercase p.1)) (zip word s) ≡ named word s
+named_zip [] [] e = refl
+named_zip [] (c ∷ cs) e = absurd (omega arith)
+named_zip (b ∷ bs) [] e = absurd (omega arith)
+named_zip (b ∷ bs) (c ∷ cs) e = ap (λ (t : Bool). eqb b (to_ascii_lowercase c) && t) (named_zip bs cs (omega arith))
 
--- words of different lengths are not the same
-pub named_apart : (word s : Bytes) → (length word ≡ length s → ⊥) → named word s ≡ false
-named_apart [] [] h = absurd (h refl)
-named_apart [] (b ∷ bs) h = refl
-named_apart (w ∷ ws) [] h = refl
-named_apart (w ∷ ws) (b ∷ bs) h = let e = named_apart ws bs (λ q. h (omega arith)) in rw e (and-false (eqb w (to_ascii_lowercase b)))
-  where
-    and-false : (t : Bool) → (t && false) ≡ false
-    and-false true = refl
-    and-false false = refl
-
-pub named_at : (word s : Bytes) (i : ℕ) → i < length word → i < length s
-    → named (drop i word) (drop i s) ≡ (eqb (get_or word i 0) (to_ascii_lowercase (get_or s i 0)) && named (drop (i + 1) word) (drop (i + 1) s))
-named_at word s i h k = ap (λ (w : Bytes). named w (drop i s)) (drop_more word i 0 h) ∙ ap (named (get_or word i 0 ∷ drop (i + 1) word)) (drop_more s i 0 k)
-
-pub named_more : (word s : Bytes) (i : ℕ) → i < length word → i < length s → to_ascii_lowercase (get_or s i 0) ≡ get_or word i 0 → named (drop (i + 1) word) (drop (i + 1) s) ≡ named (drop i word) (drop i s)
-named_more word s i h k e =
-    sym (named_at word s i h k ∙ ap (λ (t : Bool). t && named (drop (i + 1) word) (drop (i + 1) s)) (eq-eqb (get_or word i 0) (to_ascii_lowercase (get_or s i 0)) (sym e)))
-
-pub named-stops : (word s : Bytes) (i : ℕ) → i < length word → i < length s → (to_ascii_lowercase (get_or s i 0) ≡ get_or word i 0 → ⊥) → named (drop i word) (drop i s) ≡ false
-named-stops word s i h k n =
-    named_at word s i h k ∙ and_left (eqb (get_or word i 0) (to_ascii_lowercase (get_or s i 0))) (named (drop (i + 1) word) (drop (i + 1) s)) (ne_eqb (get_or word i 0) (to_ascii_lowercase (get_or s i 0)) (λ e. n (sym e)))
-
-pub named-ends : (word s : Bytes) (i : ℕ) → length word ≤ i → length s ≤ i → named (drop i word) (drop i s) ≡ true
-named-ends word s i h k = ap (λ (w : Bytes). named w (drop i s)) (drop_all i word h) ∙ ap (named []) (drop_all i s k)
+-- a token has at least one byte, and all are a token's
+pub every-token : (s : Bytes) → 0 < length s → every token_byte s ≡ token s
+every-token [] h = absurd (omega arith)
+every-token (b ∷ bs) h = refl

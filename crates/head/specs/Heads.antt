@@ -1,23 +1,26 @@
 -- What reading a head answers, and what it leaves. Assumes nothing.
-use Rattle.std.specs.Prelude.{ℕ, Bool, true, false, cond, ◌&&◌, List, [], ◌∷◌, length, nat_le}
+use Rattle.std.specs.Prelude.{ℕ, Bool, true, false, cond, ◌&&◌, List, [], ◌∷◌, length, nat_le, Result, Ok, Err}
 use Rattle.byte_lines.specs.Bytes.{Bytes, Answer}
 use Rattle.byte_lines.specs.Lines.{lines}
 use Rattle.coding.specs.Codings.{coding_number}
 use Rattle.head.specs.declared.heads.Head.{Head}
-use Rattle.head.specs.declared.heads.Head.TheVariants.{Leaf, Group, Fault, Short}
+use Rattle.head.specs.declared.heads.Head.TheVariants.{Leaf, Group}
+use Rattle.head.specs.declared.heads.HeadError.{HeadError}
+use Rattle.head.specs.declared.heads.HeadError.TheVariants.{Fault, Short}
 use Rattle.head.specs.declared.table.Record.{Record}
 use Rattle.head.specs.BoundaryBytes.{boundary_bytes}
 use Rattle.head.specs.Fields.{Field, fields_of}
+use Rattle.head.specs.Judging.{fault_number}
 use Rattle.head.specs.LineFaults.{Verdict, passes, faulty, judged}
 use Rattle.head.specs.Entities.{Entity, leaf, group, refused, entity}
 use Rattle.head.specs.Packing.{buffer_after, table_after}
 
 -- 1 a leaf, 2 a group, a fault by its own number; 0 the refusal 2
-abbrev pub answer : Head → Answer
-answer (Leaf fields coding marks) = (1, fields ∷ (coding_number coding ∷ (marks ∷ [])))
-answer (Group fields boundary) = (2, fields ∷ boundary_bytes boundary)
-answer (Fault number offset) = (number, offset ∷ [])
-answer Short = (0, 2 ∷ [])
+abbrev pub answer : Result Head HeadError → Answer
+answer (Ok (Leaf fields coding marks)) = (1, fields ∷ (coding_number coding ∷ (marks ∷ [])))
+answer (Ok (Group fields boundary)) = (2, fields ∷ boundary_bytes boundary)
+answer (Err (Fault f)) = (fault_number f.fault, f.offset ∷ [])
+answer (Err Short) = (0, 2 ∷ [])
 
 -- the answer, and the fields that are laid out: none for a fault
 abbrev pub opened : Entity → List Field → Answer × List Field

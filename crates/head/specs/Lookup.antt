@@ -1,11 +1,11 @@
 -- The fields of a table over a head buffer, and what `lookup` finds. Assumes nothing.
-use Rattle.std.specs.Prelude.{◌≡◌, ◌<◌, List, [], ◌∷◌, map, length, take, drop, slice_index_or}
+use Rattle.std.specs.Prelude.{◌≡◌, ◌<◌, List, [], ◌∷◌, map, length, take, drop, Some, None, Option, Result, Ok, Err}
+use Rattle.std.specs.Borrow.{Bor}
 use Rattle.byte_lines.specs.Bytes.{Bytes}
+use Rattle.head.specs.declared.faults.HeadFault.{HeadFault}
+use Rattle.head.specs.declared.faults.HeadFault.TheVariants.{Repeated}
 use Rattle.head.specs.declared.table.Record.{Record}
-use Rattle.head.specs.declared.lookup.Found.{Found}
-use Rattle.head.specs.declared.lookup.Found.TheVariants.{Nowhere, Once, Often}
-use Rattle.head.specs.Fields.{Field, values_of}
-use Rattle.head.specs.Packing.{no_record}
+use Rattle.head.specs.Fields.{Field}
 
 -- the field that a record says of a buffer
 abbrev pub field_at : Bytes → Record → Field
@@ -18,8 +18,8 @@ field_at buffer r =
 abbrev pub fields_in : Bytes → List Record → List Field
 fields_in buffer rs = map (field_at buffer) rs
 
--- no field of that name, the i-th record's as the only one, or more than one
-abbrev pub Finds : (word buffer : Bytes) → List Record → Found → Type 0
-Finds word buffer rs Nowhere = values_of word (fields_in buffer rs) ≡ []
-Finds word buffer rs (Once i) = (i < length rs) × (values_of word (fields_in buffer rs) ≡ (field_at buffer (slice_index_or rs i no_record)).value ∷ [])
-Finds word buffer rs Often = 1 < length (values_of word (fields_in buffer rs))
+-- none or the one of a list of values, or the fault that there are more
+abbrev pub ValueIs : Result (Option (Bor Bytes)) HeadFault → List Bytes → Type 0
+ValueIs (Ok None) vs = vs ≡ []
+ValueIs (Ok (Some v)) vs = vs ≡ v.now ∷ []
+ValueIs (Err f) vs = (f ≡ Repeated) × (1 < length vs)

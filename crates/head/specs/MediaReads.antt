@@ -8,7 +8,7 @@ use Rattle.head.specs.declared.media.pieces.Place.{Place}
 use Rattle.head.specs.declared.media.pieces.Place.TheVariants.{Outside, Inside, Protected}
 use Rattle.head.specs.BoundaryBytes.{boundary_of, if_lawful}
 use Rattle.head.specs.Entities.{boundaries, boundary}
-use Rattle.head.specs.Media.{Parameter, Quote, outside, inside, protected, quote_after, is_outside, pieces, absent, is_type}
+use Rattle.head.specs.Media.{token, Parameter, Quote, outside, inside, protected, quote_after, is_outside, pieces, absent, is_type}
 
 -- what an optional slice holds
 abbrev pub shown : Option (Bor Bytes) → Option Bytes
@@ -59,6 +59,10 @@ abbrev pub Shorter : Option (Bor Bytes) → Bytes → Type 0
 Shorter None s = Unit {0}
 Shorter (Some r) s = length r.now < length s
 
+-- a text, if it is a token
+abbrev pub token_of : Bytes → Option Bytes
+token_of s = elim (token s) [ true ↦ Some s | false ↦ None ]
+
 -- whether a type, as token, '/', token, is multipart; none where it is no type
 abbrev pub multipart_type : Bytes → Option Bool
 multipart_type s = elim (is_type s) [ true ↦ Some (named (codes "multipart") (before 47 s)) | false ↦ None ]
@@ -77,7 +81,7 @@ abbrev pub found_of : Option (Option Boundary) → Option (Option Bytes)
 found_of None = None
 found_of (Some b) = Some (boundary_of b)
 
--- the boundary after one more parameter of that name, where one was seen before or not
-abbrev pub noted : (seen : Bool) → Bytes → Option Bytes
-noted true s = None
-noted false s = if_lawful s
+-- the boundary after one more parameter of that name, where those before it, if there were any, had that one
+abbrev pub noted : Option (Option Bytes) → Bytes → Option Bytes
+noted None s = if_lawful s
+noted (Some b) s = None

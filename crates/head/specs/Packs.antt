@@ -1,34 +1,44 @@
 -- What the steps of a packing leave. Assumes nothing.
-use Rattle.std.specs.Prelude.{◌≡◌, ℕ, ◌+◌, ◌-◌, ◌<◌, ◌≤◌, false, List, ◌∷◌, ◌++◌, length, take, drop, replicate}
+use Rattle.std.specs.Prelude.{◌≡◌, ℕ, ◌+◌, ◌-◌, ◌<◌, ◌≤◌, Bool, true, false, List, ◌∷◌, ◌++◌, length, take, replicate, nat_lt}
 use Rattle.byte_lines.specs.Bytes.{Bytes}
 use Rattle.byte_lines.specs.Lines.{lines}
 use Rattle.byte_lines.specs.Strings.{trim_start}
+use Rattle.head.specs.declared.packs.Packer.{Packer}
 use Rattle.head.specs.Fields.{Field, continues, gathered, fields_of}
 
--- behind what stands before a value, and the value's text so far without blanks at its start, more text was put
-abbrev pub Joins : (old new : Bytes) (base at to : ℕ) (text : Bytes) → Type 0
-Joins old new base at to text = (p s : Bytes) → length p ≡ base → take at old ≡ p ++ trim_start s → take to new ≡ p ++ trim_start (s ++ text)
+-- more text of a value, which has begun or not: blanks before its start are left out
+abbrev pub stripped : (begun : Bool) → Bytes → Bytes
+stripped true s = s
+stripped false s = trim_start s
 
--- the lines at a text's start that continue a field, of so many bytes, were put behind what stands of the field's value
-pub record MorePacked (text old new : Bytes) (base at width to : ℕ) : Type 0 where
-  pub within : width ≤ length text
-  pub grows : at ≤ to
-  pub fits : to ≤ at + width
-  pub joins : Joins old new base at to (gathered (lines text)).more
-  pub rest : fields_of (lines text) ≡ fields_of (lines (drop width text))
-  pub ends : continues (drop width text) ≡ false
+-- a packer can take the text
+abbrev pub Room : Packer → Bytes → Type 0
+Room p text = p.to + length text ≤ length p.out.now
 
--- the first field of a head, of so many bytes, was put into a buffer
-pub record FieldPacked (head old new : Bytes) (at width name value : ℕ) : Type 0 where
+-- a packer put more text
+pub record Puts (old new : Packer) (text : Bytes) : Type 0 where
+  pub same : new.out.ghost_name ≡ old.out.ghost_name
+  pub long : length new.out.now ≡ length old.out.now
+  pub grows : new.to ≡ old.to + length text
+  pub bytes : take new.to new.out.now ≡ take old.to old.out.now ++ text
+
+-- the lines at a text's start that continue a field, whose value begins at `base`, were put, and the rest stands behind them
+pub record MorePacked (base : ℕ) (text rest : Bytes) (old new : Packer) : Type 0 where
+  pub puts : Puts old new (stripped (nat_lt base old.to) (gathered (lines text)).more)
+  pub fields : fields_of (lines text) ≡ fields_of (lines rest)
+  pub fits : new.to + length rest ≤ old.to + length text
+  pub ends : continues rest ≡ false
+
+-- the first field of a head was put, and the rest stands behind it
+pub record FieldPacked (head rest : Bytes) (old new : Packer) (name value : ℕ) : Type 0 where
   pub first : Field
-  pub splits : fields_of (lines head) ≡ first ∷ fields_of (lines (drop width head))
+  pub splits : fields_of (lines head) ≡ first ∷ fields_of (lines rest)
   pub named : length first.name ≡ name
   pub valued : length first.value ≡ value
-  pub bytes : take (at + name + value) new ≡ take at old ++ (first.name ++ first.value)
-  pub within : width ≤ length head
-  pub some : 0 < width
-  pub fits : name + value ≤ width
-  pub ends : continues (drop width head) ≡ false
+  pub puts : Puts old new (first.name ++ first.value)
+  pub shorter : length rest < length head
+  pub fits : new.to + length rest ≤ old.to + length head
+  pub ends : continues rest ≡ false
 
 -- xs and then zeros, n elements in all
 abbrev pub padded : {A : Type 0} → (zero : A) (n : ℕ) → List A → List A

@@ -3,7 +3,7 @@ use Rattle.std.specs.Prelude.{Bool, true, false, Some, None, codes, Option}
 use Rattle.byte_lines.specs.Bytes.{Bytes}
 use Rattle.byte_lines.specs.Strings.{named}
 use Rattle.head.specs.declared.media.Media.{Media}
-use Rattle.head.specs.declared.media.Media.TheVariants.{Broken, Single, Multipart}
+use Rattle.head.specs.declared.media.Media.TheVariants.{Single, Multipart}
 use Rattle.head.specs.BoundaryBytes.{boundary_of}
 use Rattle.head.specs.Entities.{boundaries, boundary}
 use Rattle.head.specs.Media.{MediaType}
@@ -13,10 +13,10 @@ pub data Summary : Type 0 where
   broken single : Summary
   multipart : (boundary : Option Bytes) → Summary
 
-abbrev pub told : Media → Summary
-told Broken = broken
-told Single = single
-told (Multipart b) = multipart (boundary_of b)
+abbrev pub told : Option Media → Summary
+told None = broken
+told (Some Single) = single
+told (Some (Multipart b)) = multipart (boundary_of b)
 
 abbrev pub typed_summary : (is_multipart : Bool) → Option Bytes → Summary
 typed_summary true b = multipart b

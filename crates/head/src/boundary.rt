@@ -1,12 +1,16 @@
-ghost use Rattle.std.specs.Prelude.{◌≡◌, ◌≤◌, length};
+ghost use Rattle.std.specs.Prelude.{◌≤◌};
+ghost use Rattle.head.specs.declared.boundary.TheConstants.{LONGEST};
 
 pub(crate) mod reads;
 
-/// The boundary of a multipart, of at most 70 bytes.
+/// How many bytes a boundary has at most.
+const LONGEST: usize = 70;
+
+/// The boundary of a multipart.
+// An array and a length, since a boundary is Copy and holds no heap.
 #[derive(Clone, Copy)]
 pub struct Boundary {
-    bytes: [u8; 70],
+    bytes: [u8; LONGEST],
     len: usize,
-    ghost sized: { length bytes ≡ 70 },
-    ghost fits: { len ≤ 70 },
+    ghost fits: { len ≤ LONGEST },
 }

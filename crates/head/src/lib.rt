@@ -12,9 +12,10 @@ mod names;
 mod opening;
 mod packs;
 mod table;
+mod texts;
 
 pub use boundary::Boundary;
-pub use faults::{Judged, judge};
-pub use heads::{Head, clear_head, read_head};
+pub use faults::{FaultAt, HeadFault, judge};
+pub use heads::{Head, HeadError, Short, clear_head, read_head};
 pub use laws::{media_law, packing_law};
 pub use table::Record;

@@ -1,41 +1,54 @@
-ghost use Rattle.std.specs.Prelude.{◌≡◌, take, drop};
-ghost use Rattle.head.specs.Lookup.{Finds};
+ghost use Rattle.std.specs.Prelude.{◌≡◌, List, take, drop};
+ghost use Rattle.head.specs.Fields.{Field, values_of};
+ghost use Rattle.head.specs.Lookup.{fields_in, ValueIs};
 
+use crate::faults::HeadFault;
 use crate::names::is_named;
 use crate::table::Record;
-
-/// How often a name stands in a table, and where the one field of that name stands.
-#[derive(Clone, Copy)]
-pub(crate) enum Found {
-    Nowhere,
-    Once(usize),
-    Often,
-}
+use std::marker::Model;
 
 /// A part of the buffer, clipped to it.
-pub(crate) fn part(buffer: &[u8], start: u16, len: u16) -> &[u8]
+fn part(buffer: &[u8], start: u16, len: u16) -> &[u8]
     ensures { result.now ≡ take len (drop start buffer.now) }
 {
     let from = (start as usize).min(buffer.len());
     let rest = &buffer[from..];
-    &rest[0..(len as usize).min(rest.len())]
+    &rest[..(len as usize).min(rest.len())]
 }
 
-/// The field of that name, which is in small letters.
-pub(crate) fn lookup(word: &[u8], buffer: &[u8], table: &[Record]) -> Found
-    ensures { Finds word.now buffer.now table.now result }
-{
-    let mut found = None;
-    for (i, record) in table.iter().enumerate() {
-        if is_named(word, part(buffer, record.name_start, record.name_len)) {
-            if found.is_some() {
-                return Found::Often;
-            }
-            found = Some(i);
-        }
+/// The fields that a table's records name in a head buffer.
+#[derive(Drop)]
+pub(crate) struct Fields<'a> {
+    buffer: &'a [u8],
+    table: &'a [Record],
+}
+
+impl<'a> Model for Fields<'a> {
+    ghost Value = { List Field };
+
+    ghost view = { λ f. fields_in f.buffer.now f.table.now };
+}
+
+impl<'a> Fields<'a> {
+    pub(crate) fn new(buffer: &'a [u8], table: &'a [Record]) -> Self
+        ensures { result ≡ fields_in buffer.now table.now }
+    {
+        Fields { buffer, table }
     }
-    match found {
-        None => Found::Nowhere,
-        Some(i) => Found::Once(i),
+
+    /// The value of the field of that name, which is in small letters, if there is one. A name that stands twice is refused.
+    pub(crate) fn lookup(&self, word: &[u8]) -> Result<Option<&'a [u8]>, HeadFault>
+        ensures { ValueIs result (values_of word.now self.now) }
+    {
+        let mut found = None;
+        for record in self.table {
+            if is_named(word, part(self.buffer, record.name_start, record.name_len)) {
+                if found.is_some() {
+                    return Err(HeadFault::Repeated);
+                }
+                found = Some(part(self.buffer, record.value_start, record.value_len));
+            }
+        }
+        Ok(found)
     }
 }

@@ -13,28 +13,23 @@ mod parts;
 mod pieces;
 mod tokens;
 
-/// What a Content-Type says: nothing lawful, a type other than multipart, or a multipart with its boundary, if it has just one and that is lawful.
+/// What a lawful Content-Type says: a type other than multipart, or a multipart with its boundary, if it has just one and that is lawful.
 #[derive(Clone, Copy)]
 pub(crate) enum Media {
-    Broken,
     Single,
     Multipart(Option<Boundary>),
 }
 
-/// What the value of a Content-Type says.
-pub(crate) fn read_media(value: &[u8]) -> Media
+/// What the value of a Content-Type says, if it is lawful.
+pub(crate) fn read_media(value: &[u8]) -> Option<Media>
     ensures { told result ≡ summary (media_type value.now) }
 {
     let (first, later) = first_piece(value);
-    let Some(is_multipart) = multipart_type(trimmed(first)) else {
-        return Media::Broken;
-    };
-    let Some(boundary) = boundary_in(later) else {
-        return Media::Broken;
-    };
+    let is_multipart = multipart_type(trimmed(first))?;
+    let boundary = boundary_in(later)?;
     if is_multipart {
-        Media::Multipart(boundary)
+        Some(Media::Multipart(boundary))
     } else {
-        Media::Single
+        Some(Media::Single)
     }
 }

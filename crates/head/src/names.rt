@@ -5,14 +5,9 @@ ghost use Rattle.byte_lines.specs.Strings.{named};
 pub(crate) fn is_named(word: &[u8], text: &[u8]) -> bool
     ensures { result ≡ named word.now text.now }
 {
-    if word.len() != text.len() {
-        return false;
-    }
-    for (i, b) in text.iter().enumerate() {
-        let small = b.to_ascii_lowercase();
-        if word[i] != small {
-            return false;
-        }
-    }
-    true
+    word.len() == text.len()
+        && word
+            .iter()
+            .zip(text)
+            .all(|(w, b)| *w == b.to_ascii_lowercase())
 }

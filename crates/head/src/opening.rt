@@ -1,122 +1,97 @@
-ghost use Rattle.std.specs.Prelude.{◌≡◌, ◌≤◌, codes};
+ghost use Rattle.std.specs.Prelude.{◌≡◌, ◌≤◌, codes, Ok};
+ghost use Rattle.head.specs.BoundaryBytes.{boundary_of};
 ghost use Rattle.head.specs.Entities.{entity, leaf_of};
 ghost use Rattle.head.specs.Fields.{values_of};
-ghost use Rattle.head.specs.Lookup.{fields_in};
-ghost use Rattle.head.specs.Openings.{coded_by, entity_by, entity_from, ValuesAre, CodedIs};
-ghost use Rattle.head.specs.Summaries.{told};
+ghost use Rattle.head.specs.Openings.{coded_by, entity_by, entity_from, CodingIs};
+ghost use Rattle.head.specs.Summaries.{told, multipart};
 
 use crate::boundary::Boundary;
-use crate::codings::{Coded, coding_of};
-use crate::lookup::{Found, lookup, part};
+use crate::codings::coding_of;
+use crate::faults::HeadFault;
+use crate::lookup::Fields;
 use crate::media::{Media, read_media};
-use crate::table::Record;
 use coding::Coding;
 
 /// How many groups may be open.
 const MOST_GROUPS: u32 = 8;
+
+/// A leaf's mark of a broken Content-Type. A leaf has the sum of its marks.
+const BROKEN_TYPE: u32 = 1;
+
+/// A leaf's mark of a coding that is not known.
+const UNKNOWN_CODING: u32 = 2;
 
 /// What a head's fields make of its entity.
 #[derive(Clone, Copy)]
 pub(crate) enum Opening {
     Leaf { coding: Coding, marks: u32 },
     Group(Boundary),
-    /// The fault of that number.
-    Refused(u32),
 }
 
-/// The values of the fields of one name.
-#[derive(Clone, Copy)]
-pub(crate) enum Values<'a> {
-    Absent,
-    One(&'a [u8]),
-    Many,
-}
-
-fn find_values<'a>(word: &[u8], buffer: &'a [u8], table: &[Record]) -> Values<'a>
-    ensures { ValuesAre result (values_of word.now (fields_in buffer.now table.now)) }
+/// The transfer coding, none if it is not known. A field that stands twice is refused.
+fn coding_in(fields: &Fields) -> Result<Option<Coding>, HeadFault>
+    ensures { CodingIs result (values_of (codes "content-transfer-encoding") fields.now) }
 {
-    match lookup(word, buffer, table) {
-        Found::Nowhere => Values::Absent,
-        Found::Once(i) => {
-            let record = table[i];
-            Values::One(part(buffer, record.value_start, record.value_len))
-        }
-        Found::Often => Values::Many,
+    match fields.lookup(b"content-transfer-encoding")? {
+        Some(value) => Ok(coding_of(value)),
+        None => Ok(Some(Coding::Plain)),
     }
 }
 
-/// The transfer coding; none where its field stands twice.
-fn coded_in(buffer: &[u8], table: &[Record]) -> Option<Coded>
-    ensures { CodedIs result (values_of (codes "content-transfer-encoding") (fields_in buffer.now table.now)) }
+/// A leaf with that coding, and that mark of its Content-Type.
+fn leaf(coding: Option<Coding>, mark: u32) -> Opening
+    requires { mark ≤ 1 }
+    ensures { entity_by (Ok result) ≡ leaf_of (coded_by coding) mark }
 {
-    match find_values(b"content-transfer-encoding", buffer, table) {
-        Values::Absent => Some(Coded {
+    match coding {
+        Some(coding) => Opening::Leaf {
+            coding,
+            marks: mark,
+        },
+        None => Opening::Leaf {
             coding: Coding::Plain,
-            mark: 0,
-        }),
-        Values::One(value) => Some(coding_of(value)),
-        Values::Many => None,
+            marks: UNKNOWN_CODING + mark,
+        },
     }
 }
 
-fn open_leaf(coded: Coded, mark: u32) -> Opening
-    requires small { mark ≤ 1 }
-    requires known { coded.mark ≤ 2 }
-    ensures { entity_by result ≡ leaf_of (coded_by coded) mark }
+/// A multipart with that coding and boundary, where so many groups are open around it.
+fn group(
+    around: u32,
+    coding: Option<Coding>,
+    boundary: Option<Boundary>,
+) -> Result<Opening, HeadFault>
+    ensures { entity_by result ≡ entity_from around (multipart (boundary_of boundary)) (coded_by coding) }
 {
-    Opening::Leaf {
-        coding: coded.coding,
-        marks: coded.mark + mark,
+    if coding != Some(Coding::Plain) {
+        return Err(HeadFault::CodedGroup);
     }
+    let boundary = boundary.ok_or(HeadFault::BadBoundary)?;
+    if around >= MOST_GROUPS {
+        return Err(HeadFault::TooDeep);
+    }
+    Ok(Opening::Group(boundary))
 }
 
 /// The entity of a head with a Content-Type.
-fn typed(around: u32, media: Media, coded: Coded) -> Opening
-    requires { coded.mark ≤ 2 }
-    ensures { entity_by result ≡ entity_from around (told media) (coded_by coded) }
+fn typed(around: u32, coding: Option<Coding>, media: Option<Media>) -> Result<Opening, HeadFault>
+    ensures { entity_by result ≡ entity_from around (told media) (coded_by coding) }
 {
     match media {
-        Media::Broken => open_leaf(coded, 1),
-        Media::Single => open_leaf(coded, 0),
-        Media::Multipart(boundary) => open_group(around, boundary, coded),
+        None => Ok(leaf(coding, BROKEN_TYPE)),
+        Some(Media::Single) => Ok(leaf(coding, 0)),
+        Some(Media::Multipart(boundary)) => group(around, coding, boundary),
     }
 }
 
-fn open_group(around: u32, boundary: Option<Boundary>, coded: Coded) -> Opening
-    ensures { entity_by result ≡ entity_from around (told (Media.Multipart boundary)) (coded_by coded) }
+/// The entity of a head with these fields, where so many groups are open around it.
+pub(crate) fn decide(around: u32, fields: &Fields) -> Result<Opening, HeadFault>
+    ensures { entity_by result ≡ entity around fields.now }
 {
-    if coded.mark != 0 {
-        return Opening::Refused(45);
-    }
-    match coded.coding {
-        Coding::Plain => {}
-        _ => return Opening::Refused(45),
-    }
-    match boundary {
-        None => Opening::Refused(46),
-        Some(boundary) => {
-            if around < MOST_GROUPS {
-                Opening::Group(boundary)
-            } else {
-                Opening::Refused(47)
-            }
-        }
-    }
-}
-
-/// The entity of a head whose fields lie in the buffer by the records of the table, where so many groups are open around it.
-pub(crate) fn decide(around: u32, buffer: &[u8], table: &[Record]) -> Opening
-    ensures { entity_by result ≡ entity around (fields_in buffer.now table.now) }
-{
-    let Some(coded) = coded_in(buffer, table) else {
-        return Opening::Refused(44);
-    };
-    if let Values::Many = find_values(b"content-disposition", buffer, table) {
-        return Opening::Refused(44);
-    }
-    match find_values(b"content-type", buffer, table) {
-        Values::Absent => open_leaf(coded, 0),
-        Values::One(value) => typed(around, read_media(value), coded),
-        Values::Many => Opening::Refused(44),
+    let coding = coding_in(fields)?;
+    fields.lookup(b"content-disposition")?;
+    match fields.lookup(b"content-type")? {
+        Some(value) => typed(around, coding, read_media(value)),
+        None => Ok(leaf(coding, 0)),
     }
 }

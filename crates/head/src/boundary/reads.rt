@@ -1,9 +1,8 @@
-ghost use Rattle.std.specs.Prelude.{◌≡◌, ◌≤◌, [], ◌++◌, length, drop};
-ghost use Rattle.byte_lines.specs.Strings.{every};
-ghost use Rattle.head.specs.Entities.{boundary_byte};
+ghost use Rattle.std.specs.Prelude.{◌≡◌, []};
+ghost use Rattle.head.specs.Entities.{boundary_byte, lawful};
 ghost use Rattle.head.specs.BoundaryBytes.{boundary_bytes, boundary_of, if_lawful};
 
-use super::Boundary;
+use super::{Boundary, LONGEST};
 
 impl Boundary {
     /// A boundary of no bytes, which no multipart has.
@@ -11,7 +10,7 @@ impl Boundary {
         ensures { boundary_bytes result ≡ [] }
     {
         Boundary {
-            bytes: [0; 70],
+            bytes: [0; LONGEST],
             len: 0,
         }
     }
@@ -28,48 +27,29 @@ impl Boundary {
 fn is_boundary_byte(b: u8) -> bool
     ensures { result ≡ boundary_byte b }
 {
-    match b {
-        b' ' | b'\''..=b')' | b'+'..=b':' | b'=' | b'?' | b'A'..=b'Z' | b'_' | b'a'..=b'z' => true,
-        _ => false,
-    }
+    matches!(b, b' ' | b'\''..=b')' | b'+'..=b':' | b'=' | b'?' | b'A'..=b'Z' | b'_' | b'a'..=b'z')
 }
 
-/// Whether every byte may stand in a boundary.
-fn has_boundary_bytes(text: &[u8]) -> bool
-    ensures { result ≡ every boundary_byte text.now }
+/// Whether the text is lawful as a boundary.
+#[tactic(auto, using(crate::proofs::LawfulTexts::false_lawful))]
+fn is_lawful(text: &[u8]) -> bool
+    ensures { result ≡ lawful text.now }
 {
-    for b in text {
-        if !is_boundary_byte(*b) {
-            return false;
-        }
+    match text {
+        [] | [.., b' '] => false,
+        _ => text.len() <= LONGEST && text.iter().all(|b| is_boundary_byte(*b)),
     }
-    true
-}
-
-/// Copies the bytes to the buffer's start.
-fn put(bytes: &[u8], buffer: &mut [u8])
-    requires { length bytes.now ≤ length buffer.old }
-    ensures { buffer.new ≡ bytes.now ++ drop (length bytes.now) buffer.old }
-{
-    let front = &mut buffer[0..bytes.len()];
-    front.copy_from_slice(bytes);
 }
 
 /// The text as a boundary, if it is lawful as one.
 pub(crate) fn lawful_boundary(text: &[u8]) -> Option<Boundary>
     ensures { boundary_of result ≡ if_lawful text.now }
 {
+    if !is_lawful(text) {
+        return None;
+    }
     let len = text.len();
-    if len == 0 || len > 70 {
-        return None;
-    }
-    if text[len - 1] == b' ' {
-        return None;
-    }
-    if !has_boundary_bytes(text) {
-        return None;
-    }
-    let mut bytes = [0; 70];
-    put(text, &mut bytes);
+    let mut bytes = [0; LONGEST];
+    bytes[..len].copy_from_slice(text);
     Some(Boundary { bytes, len })
 }

@@ -14,40 +14,36 @@ use crate::names::is_named;
 fn ends_parameters(piece: &[u8], later: Option<&[u8]>) -> bool
     ensures { result ≡ ends_parameters piece.now later.entry }
 {
-    match later {
-        Some(_) => false,
-        None => piece.is_empty(),
-    }
+    later.is_none() && piece.is_empty()
 }
 
-/// The boundary after one more parameter of that name.
-fn note(seen: bool, text: &[u8]) -> Option<Boundary>
-    ensures { boundary_of result ≡ noted seen text.now }
+/// The boundary after one more parameter of that name, where that of those before it was found.
+fn note(found: Option<Option<Boundary>>, text: &[u8]) -> Option<Boundary>
+    ensures { boundary_of result ≡ noted (found_of found) text.now }
 {
-    if seen { None } else { lawful_boundary(text) }
+    match found {
+        None => lawful_boundary(text),
+        Some(_) => None,
+    }
 }
 
 /// The one boundary among the parameters behind the first ';', if it is lawful; nothing where a parameter is broken.
 pub(crate) fn boundary_in(behind: Option<&[u8]>) -> Option<Option<Boundary>>
     ensures { found_of result ≡ boundary_in (parameters (later_pieces behind.entry)) }
 {
-    let mut seen = false;
-    let mut boundary = None;
+    let mut found = None;
     let mut rest = behind;
     while let Some(text) = rest {
         let (piece, later) = first_piece(text);
         let piece = trimmed(piece);
         if ends_parameters(piece, later) {
-            return Some(boundary);
+            break;
         }
-        let Some((name, content)) = parameter_of(piece) else {
-            return None;
-        };
+        let (name, content) = parameter_of(piece)?;
         if is_named(b"boundary", name) {
-            boundary = note(seen, content);
-            seen = true;
+            found = Some(note(found, content));
         }
         rest = later;
     }
-    Some(boundary)
+    Some(found.flatten())
 }

@@ -1,9 +1,10 @@
 ghost use Rattle.std.specs.Prelude.{◌≡◌, false};
 ghost use Rattle.head.specs.Media.{quoted_content, content, parameter};
-ghost use Rattle.head.specs.MediaReads.{shown, shown_parameter, closes, multipart_type};
+ghost use Rattle.head.specs.MediaReads.{shown, shown_parameter, closes, token_of, multipart_type};
 
-use super::tokens::{find, is_token};
+use super::tokens::is_token;
 use crate::names::is_named;
+use crate::texts::find;
 
 /// Whether the text behind a '"' is the rest of a quoted string.
 fn is_closed(text: &[u8]) -> bool
@@ -26,39 +27,37 @@ fn is_closed(text: &[u8]) -> bool
 fn quoted(text: &[u8]) -> Option<&[u8]>
     ensures { shown result ≡ quoted_content text.now }
 {
-    if !is_closed(text) {
-        return None;
+    if is_closed(text) {
+        Some(&text[..text.len() - 1])
+    } else {
+        None
     }
-    Some(&text[0..text.len() - 1])
+}
+
+/// The text, if it is a token.
+fn token(text: &[u8]) -> Option<&[u8]>
+    ensures { shown result ≡ token_of text.now }
+{
+    if is_token(text) { Some(text) } else { None }
 }
 
 /// A token, or a quoted string by its content.
 fn content_of(text: &[u8]) -> Option<&[u8]>
     ensures { shown result ≡ content text.now }
 {
-    if text.is_empty() {
-        return None;
+    match text {
+        [b'"', behind @ ..] => quoted(behind),
+        _ => token(text),
     }
-    if text[0] == b'"' {
-        return quoted(&text[1..]);
-    }
-    if is_token(text) { Some(text) } else { None }
 }
 
 /// A parameter's name and value.
 pub(crate) fn parameter_of(text: &[u8]) -> Option<(&[u8], &[u8])>
     ensures { shown_parameter result ≡ parameter text.now }
 {
-    let Some(i) = find(b'=', text) else {
-        return None;
-    };
-    let name = &text[0..i];
-    if !is_token(name) {
-        return None;
-    }
-    let Some(value) = content_of(&text[i + 1..]) else {
-        return None;
-    };
+    let i = find(b'=', text)?;
+    let name = token(&text[..i])?;
+    let value = content_of(&text[i + 1..])?;
     Some((name, value))
 }
 
@@ -66,15 +65,8 @@ pub(crate) fn parameter_of(text: &[u8]) -> Option<(&[u8], &[u8])>
 pub(crate) fn multipart_type(text: &[u8]) -> Option<bool>
     ensures { result ≡ multipart_type text.now }
 {
-    let Some(i) = find(b'/', text) else {
-        return None;
-    };
-    let name = &text[0..i];
-    if !is_token(name) {
-        return None;
-    }
-    if !is_token(&text[i + 1..]) {
-        return None;
-    }
+    let i = find(b'/', text)?;
+    let name = token(&text[..i])?;
+    token(&text[i + 1..])?;
     Some(is_named(b"multipart", name))
 }

@@ -14,20 +14,12 @@ enum Place {
 fn place_after(place: Place, b: u8) -> Place
     ensures { quote_of result ≡ quote_after (quote_of place) b }
 {
-    match place {
-        Place::Outside => {
-            if b == b'"' {
-                Place::Inside
-            } else {
-                Place::Outside
-            }
-        }
-        Place::Inside => match b {
-            b'"' => Place::Outside,
-            b'\\' => Place::Protected,
-            _ => Place::Inside,
-        },
-        Place::Protected => Place::Inside,
+    match (place, b) {
+        (Place::Outside, b'"') => Place::Inside,
+        (Place::Outside, _) => Place::Outside,
+        (Place::Inside, b'"') => Place::Outside,
+        (Place::Inside, b'\\') => Place::Protected,
+        (Place::Inside | Place::Protected, _) => Place::Inside,
     }
 }
 
@@ -35,10 +27,7 @@ fn place_after(place: Place, b: u8) -> Place
 fn ends_piece(place: Place, b: u8) -> bool
     ensures { result ≡ ends_piece (quote_of place) b }
 {
-    match place {
-        Place::Outside => b == b';',
-        Place::Inside | Place::Protected => false,
-    }
+    matches!((place, b), (Place::Outside, b';'))
 }
 
 /// How long the value's first piece is.
@@ -46,6 +35,7 @@ fn piece_len(value: &[u8]) -> usize
     ensures { result ≡ piece_length outside value.now }
 {
     let mut place = Place::Outside;
+    // A loop, since each byte moves the place on.
     for (i, b) in value.iter().enumerate() {
         if ends_piece(place, *b) {
             return i;
@@ -56,13 +46,14 @@ fn piece_len(value: &[u8]) -> usize
 }
 
 /// The value's first piece, and what stands behind its ';'.
+#[tactic(auto, using(crate::proofs::Quotes::pieces_last))]
 pub(crate) fn first_piece(value: &[u8]) -> (&[u8], Option<&[u8]>)
     ensures splits { result.0.now ∷ later_pieces result.1 ≡ pieces outside value.now }
     ensures shorter { Shorter result.1 value.now }
 {
     let end = piece_len(value);
     if end < value.len() {
-        (&value[0..end], Some(&value[end + 1..]))
+        (&value[..end], Some(&value[end + 1..]))
     } else {
         (value, None)
     }

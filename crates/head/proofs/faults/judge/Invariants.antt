@@ -1,10 +1,10 @@
-use Rattle.std.proofs.Common.{◌≡◌, ◌-◌, ◌≤◌, length, drop}
+use Rattle.std.proofs.Common.{◌≡◌, ◌-◌, ◌≤◌, length}
 use Rattle.byte_lines.specs.Lines.{lines}
 use Rattle.head.specs.LineFaults.{judged}
 use Rattle.head.proofs.faults.judge.Given as goal
 
-abbrev pub invariant-loop-at : goal.invariant-loop-at
-invariant-loop-at l = (judged l.at l.fields (lines (drop l.at l.head)) ≡ judged 0 0 (lines l.head)) × (l.at ≤ 8192) × (l.at ≤ length l.head) × (l.fields ≤ 64)
+abbrev pub invariant-loop-rest : goal.invariant-loop-rest
+invariant-loop-rest l = (judged (length l.head - length l.rest) l.fields (lines l.rest) ≡ judged 0 0 (lines l.head)) × (length l.rest ≤ length l.head) × (length l.head - length l.rest ≤ 8192)
 
-abbrev pub decreases-loop-at : goal.decreases-loop-at
-decreases-loop-at l = length l.head - l.at
+abbrev pub decreases-loop-rest : goal.decreases-loop-rest
+decreases-loop-rest l = length l.rest

@@ -1,62 +1,35 @@
-use Rattle.std.proofs.Common.{ℕ, ◌-◌, leb, [], ◌∷◌, length, sym, refl, ap, ◌∙◌, ⊎_elim, arith}
-use Rattle.std.proofs.lemmas.Bool.{lt-leb, and_left, and_right}
-use Rattle.byte_lines.specs.Lines.{lines}
-use Rattle.coding.specs.Codings.{coding_number}
-use Rattle.head.specs.BoundaryBytes.{boundary_bytes}
-use Rattle.head.specs.Fields.{fields_of}
-use Rattle.head.specs.Entities.{leaf, group, refused}
-use Rattle.head.specs.Packing.{buffer_after, table_after}
-use Rattle.head.proofs.HeadReads.{buffer_again, table_again, read_short, read_opened, decided, put_together}
+use Rattle.std.proofs.Common.{◌≡◌, sym}
+use Rattle.std.proofs.lemmas.Option.{MatchOption-at_some, MatchOption-at_none}
+use Rattle.std.proofs.lemmas.Result.{err_from_is_err_and}
+use Rattle.head.specs.declared.heads.HeadError.TheVariants.{Short}
+use Rattle.head.specs.Heads.{head_says}
+use Rattle.head.proofs.HeadReads.{buffer_laid, table_laid, front_kept, is_read, not_read, on_ok, on_err}
 use Rattle.head.proofs.heads.read_head.Goals as goal
 
-pub returns-then-buffer-lt-BUFFER : goal.returns-then-buffer-lt-BUFFER
-returns-then-buffer-lt-BUFFER c =
-    let b = c.args.buffer.now in
-    let t = c.args.table.now in
-    read_short c.args.around c.args.head.now b t
-    (⊎_elim (λ h. and_left (leb 8192 (length b)) (leb 64 (length t)) (lt-leb 8192 (length b) h)) (λ h. and_right (leb 8192 (length b)) (leb 64 (length t)) (lt-leb 64 (length t) h.1))
-    c.then-buffer-lt-BUFFER.either)
+pub returns-in_err-table : goal.returns-in_err-table
+returns-in_err-table c =
+    let p = err_from_is_err_and c.from_residual-in_err-table.result c.from_residual-in_err-table.ensures.1 in
+    let f = MatchOption-at_some _ _ c.in_ok-buffer.buffer c.in_ok-buffer.ensures.ok_part c.first_chunk_mut.ensures.cases in
+    let v = rw c.in_err-table.ensures.ok_part at c.in_err-table.ensures.value in
+    let e : c.in_err-table.field-0.0 ≡ Short = cc in
+    not_read c.args.buffer.now c.args.table.now c.args.around c.args.head.now (rw (p.1, p.2, e)) (MatchOption-at_none _ _ c.in_err-table.ensures.ok_part c.first_chunk_mut-2.ensures.cases) (front_kept f)
 
-pub returns-in-Leaf : goal.returns-in-Leaf
-returns-in-Leaf c =
-    let s = c.args.head.now in
-    let fs = fields_of (lines s) in
-    let b = c.args.buffer.now in
-    let t = c.args.table.now in
-    let p = c.pack-fields.ensures in
-    let n = c.pack-fields.result in
-    let x = leaf (coding_number c.in-Leaf.coding) c.in-Leaf.marks in
-    put_together _ _ _ _ _ _ (ap (λ (k : ℕ). (1, k ∷ (coding_number c.in-Leaf.coding ∷ (c.in-Leaf.marks ∷ [])))) p.count) p.bytes p.records
-    ∙ read_opened c.args.around c.in_default.field-0 s b t x (omega (arith, c.if-buffer-lt-BUFFER.false)) (omega (arith, c.if-table-lt-TABLE.false)) c.in_default.ensures
-    (decided c.args.around (n - 0) x fs b c.pack-fields.new.buffer t c.pack-fields.new.table (omega (arith, p.count)) p.bytes p.records c.in-Leaf.ensures)
+pub returns-then-is_err : goal.returns-then-is_err
+returns-then-is_err c =
+    let f = MatchOption-at_some _ _ c.in_ok-buffer.buffer c.in_ok-buffer.ensures.ok_part c.first_chunk_mut.ensures.cases in
+    let g = MatchOption-at_some _ _ c.in_ok-table.table c.in_ok-table.ensures.ok_part c.first_chunk_mut-2.ensures.cases in
+    let r = c.read_into-read in
+    let none = on_err r.result (sym c.if-is_err.ensures.value) r.ensures.faulty in
+    is_read c.args.buffer.now c.args.table.now c.args.around c.args.head.now r.ensures.answers f.enough g.enough
+    (buffer_laid (head_says c.args.around c.args.head.now).1 c.args.buffer.now (rw none c.clear.ensures.bytes))
+    (table_laid (head_says c.args.around c.args.head.now).1 c.args.table.now (rw none c.clear.ensures.records))
 
-pub returns-in-Group : goal.returns-in-Group
-returns-in-Group c =
-    let s = c.args.head.now in
-    let fs = fields_of (lines s) in
-    let b = c.args.buffer.now in
-    let t = c.args.table.now in
-    let p = c.pack-fields.ensures in
-    let n = c.pack-fields.result in
-    let x = group (boundary_bytes c.in-Group.boundary) in
-    put_together _ _ _ _ _ _ (ap (λ (k : ℕ). (2, k ∷ boundary_bytes c.in-Group.boundary)) p.count) p.bytes p.records
-    ∙ read_opened c.args.around c.in_default.field-0 s b t x (omega (arith, c.if-buffer-lt-BUFFER.false)) (omega (arith, c.if-table-lt-TABLE.false)) c.in_default.ensures
-    (decided c.args.around (n - 0) x fs b c.pack-fields.new.buffer t c.pack-fields.new.table (omega (arith, p.count)) p.bytes p.records c.in-Group.ensures)
-
-pub returns-in-Refused : goal.returns-in-Refused
-returns-in-Refused c =
-    let s = c.args.head.now in
-    let fs = fields_of (lines s) in
-    let b = c.args.buffer.now in
-    let t = c.args.table.now in
-    let p = c.pack-fields.ensures in
-    let n = c.pack-fields.result in
-    let z = c.clear-in-Refused.ensures in
-    let x = refused c.in-Refused.number in
-    let lb = ap length (sym p.bytes) ∙ c.pack-fields.auto.buffer in
-    let lt = ap length (sym p.records) ∙ c.pack-fields.auto.table in
-    put_together (c.in-Refused.number, 0 ∷ []) (c.in-Refused.number, 0 ∷ []) _ _ _ _ refl
-    (z.bytes ∙ ap (buffer_after []) p.bytes ∙ buffer_again fs b (omega (arith, c.if-buffer-lt-BUFFER.false)) lb)
-    (z.records ∙ ap (table_after []) p.records ∙ table_again fs t (omega (arith, c.if-table-lt-TABLE.false)) lt)
-    ∙ read_opened c.args.around c.in_default.field-0 s b t x (omega (arith, c.if-buffer-lt-BUFFER.false)) (omega (arith, c.if-table-lt-TABLE.false)) c.in_default.ensures
-    (decided c.args.around (n - 0) x fs b c.pack-fields.new.buffer t c.pack-fields.new.table (omega (arith, p.count)) p.bytes p.records c.in-Refused.ensures)
+pub returns-else-is_err : goal.returns-else-is_err
+returns-else-is_err c =
+    let f = MatchOption-at_some _ _ c.in_ok-buffer.buffer c.in_ok-buffer.ensures.ok_part c.first_chunk_mut.ensures.cases in
+    let g = MatchOption-at_some _ _ c.in_ok-table.table c.in_ok-table.ensures.ok_part c.first_chunk_mut-2.ensures.cases in
+    let r = c.read_into-read in
+    let l = on_ok r.result (sym c.if-is_err.ensures.value) r.ensures.laid in
+    is_read c.args.buffer.now c.args.table.now c.args.around c.args.head.now r.ensures.answers f.enough g.enough
+    (buffer_laid (head_says c.args.around c.args.head.now).1 c.args.buffer.now l.0)
+    (table_laid (head_says c.args.around c.args.head.now).1 c.args.table.now l.1)

@@ -1,58 +1,35 @@
-use Rattle.std.proofs.Common.{◌≡◌, ◌≤◌, List, [], ◌∷◌, codes, sym, ap, ◌∙◌, subst, arith}
-use Rattle.byte_lines.specs.Bytes.{Bytes}
-use Rattle.head.specs.Media.{media_type}
-use Rattle.head.specs.Fields.{values_of}
-use Rattle.head.specs.Lookup.{fields_in}
-use Rattle.head.specs.Entities.{Coded, coding_of, typed_entity, leaf_of}
+use Rattle.std.proofs.Common.{ap, ◌∙◌, inl, inr}
+use Rattle.std.proofs.lemmas.Result.{err_from_is_err_and}
+use Rattle.head.specs.Summaries.{Summary}
 use Rattle.head.specs.Openings.{coded_by, entity_from}
-use Rattle.head.specs.Summaries.{Summary, summary}
-use Rattle.head.proofs.Deciding.{once_none, once_one, once_not_many, twice_many, mark_small, refused-types, refused-codings, refused-dispositions, entity-typed, entity_short}
+use Rattle.head.proofs.Deciding.{repeated, decided_none, decided_one}
 use Rattle.head.proofs.opening.decide.Goals as goal
 
-pub returns-in_default : goal.returns-in_default
-returns-in_default c = refused-codings c.args.around (fields_in c.args.buffer.now c.args.table.now) c.in_default.ensures
+pub returns-in_err-coding : goal.returns-in_err-coding
+returns-in_err-coding c =
+    let p = err_from_is_err_and c.from_residual.result c.from_residual.ensures.1 in
+    let e = c.in_err-coding.ensures in
+    rw (p.1, p.2) (repeated c.args.around c.args.fields.now c.in_err-coding.field-0.0 e.0 (inr (inl e.1)))
 
-pub returns-in-Many : goal.returns-in-Many
-returns-in-Many c = refused-dispositions c.args.around (fields_in c.args.buffer.now c.args.table.now) (twice_many _ c.in-Many.ensures)
+pub returns-in_err-lookup : goal.returns-in_err-lookup
+returns-in_err-lookup c =
+    let p = err_from_is_err_and c.from_residual-in_err-lookup.result c.from_residual-in_err-lookup.ensures.1 in
+    let e = c.in_err-lookup.ensures in
+    rw (p.1, p.2) (repeated c.args.around c.args.fields.now c.in_err-lookup.field-0.0 e.0 (inr (inr e.1)))
 
--- a mark that is a coding's
-mark_is : (c : Coded) (vs : List Bytes) → c ≡ coding_of vs → c.mark ≤ 2
-mark_is c vs e = subst (λ (d : Coded). d.mark ≤ 2) (sym e) (mark_small vs)
+pub returns-in_err-value : goal.returns-in_err-value
+returns-in_err-value c =
+    let p = err_from_is_err_and c.from_residual-in_err-value.result c.from_residual-in_err-value.ensures.1 in
+    let e = c.in_err-value.ensures in
+    rw (p.1, p.2) (repeated c.args.around c.args.fields.now c.in_err-value.field-0.0 e.0 (inl e.1))
 
-pub open_leaf-requires : goal.open_leaf-requires
-open_leaf-requires c =
-    record {
-      small = omega arith;
-      known = mark_is (coded_by c.in-Some.coded) (values_of (codes "content-transfer-encoding") (fields_in c.args.buffer.now c.args.table.now)) c.in-Some.ensures.1;
-    }
+pub returns-in-Some : goal.returns-in-Some
+returns-in-Some c =
+    let e = rw c.in-Some.is at c.in_ok-value.ensures in
+    c.typed.ensures ∙ ap (λ (m : Summary). entity_from c.args.around m (coded_by c.in_ok-coding.coding)) c.read_media.ensures
+    ∙ decided_one c.args.around c.args.fields.now c.in_ok-coding.coding c.in_ok-coding.ensures c.in_ok-lookup.field-0 c.in_ok-lookup.ensures c.in-Some.value.now e
 
-pub typed-requires : goal.typed-requires
-typed-requires c =
-    mark_is (coded_by c.in-Some.coded) (values_of (codes "content-transfer-encoding") (fields_in c.args.buffer.now c.args.table.now)) c.in-Some.ensures.1
-
-pub returns-in-Absent : goal.returns-in-Absent
-returns-in-Absent c =
-    let fs = fields_in c.args.buffer.now c.args.table.now in
-    let around = c.args.around in
-    let e : values_of (codes "content-type") fs ≡ [] = c.in-Absent.ensures in
-    let s = c.in-Some.ensures in
-    let d = once_not_many c.find_values.result (values_of (codes "content-disposition") fs) c.find_values.ensures c.in_default-find_values.not-Many in
-    c.open_leaf.ensures ∙ ap (λ (k : Coded). leaf_of k 0) s.1
-    ∙ ap (λ (vs : List Bytes). typed_entity around vs (coding_of (values_of (codes "content-transfer-encoding") fs))) (sym e)
-    ∙ sym (entity-typed around fs (once_none _ e) s.0 d)
-
-pub returns-in-One : goal.returns-in-One
-returns-in-One c =
-    let fs = fields_in c.args.buffer.now c.args.table.now in
-    let around = c.args.around in
-    let v : Bytes = c.in-One.value.now in
-    let e : values_of (codes "content-type") fs ≡ v ∷ [] = c.in-One.ensures in
-    let s = c.in-Some.ensures in
-    let d = once_not_many c.find_values.result (values_of (codes "content-disposition") fs) c.find_values.ensures c.in_default-find_values.not-Many in
-    let k : Coded = coding_of (values_of (codes "content-transfer-encoding") fs) in
-    c.typed.ensures ∙ ap (λ (m : Summary). entity_from around m (coded_by c.in-Some.coded)) c.read_media.ensures
-    ∙ ap (entity_from around (summary (media_type v))) s.1 ∙ sym (entity_short around (media_type v) k)
-    ∙ ap (λ (vs : List Bytes). typed_entity around vs k) (sym e) ∙ sym (entity-typed around fs (once_one _ v e) s.0 d)
-
-pub returns-in-Many-find_values : goal.returns-in-Many-find_values
-returns-in-Many-find_values c = refused-types c.args.around (fields_in c.args.buffer.now c.args.table.now) (twice_many _ c.in-Many-find_values.ensures)
+pub returns-in-None : goal.returns-in-None
+returns-in-None c =
+    let e = rw c.in-None.is at c.in_ok-value.ensures in
+    c.leaf.ensures ∙ decided_none c.args.around c.args.fields.now c.in_ok-coding.coding c.in_ok-coding.ensures c.in_ok-lookup.field-0 c.in_ok-lookup.ensures e
