@@ -1,5 +1,5 @@
 -- What a reader keeps where its scan goes on between bodies.
-use Rattle.std.proofs.Common.{◌≡◌, ℕ, ◌+◌, ◌≤◌, List, Option, ap, ◌∙◌, arith}
+use Rattle.std.proofs.Common.{◌≡◌, ℕ, ◌+◌, ◌≤◌, List, Option, ap, arith}
 use Rattle.message.specs.Entries.{Entry}
 use Rattle.calls.specs.ReaderMeaning.{Part, Meaning}
 use Rattle.input.specs.declared.window.Input.{Input}
@@ -19,6 +19,4 @@ module _ {S : Type 0} {G : Ghosts S} (a b : Scan S G) where
 -- a meaning by its two parts that may have changed their form
 pub meaning_by : (number delivered : ℕ) (a a' : List Entry) (p p' : Option Part) → a ≡ a' → p ≡ p'
     → ◌≡◌ {A = Meaning} (record { number = number; ahead = a; part = p; delivered = delivered }) (record { number = number; ahead = a'; part = p'; delivered = delivered })
-meaning_by number delivered a a' p p' e f =
-    ap {B = Meaning} (λ (x : List Entry). record { number = number; ahead = x; part = p; delivered = delivered }) e
-    ∙ ap {B = Meaning} (λ (x : Option Part). record { number = number; ahead = a'; part = x; delivered = delivered }) f
+meaning_by number delivered a a' p p' e f = cc

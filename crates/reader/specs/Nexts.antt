@@ -15,7 +15,7 @@ use Rattle.message.specs.Bodies.{body, body_end, end_in}
 use Rattle.message.specs.Entries.{Entry}
 use Rattle.message.specs.Rows.{heading, passing, last_entry, row}
 use Rattle.levels.specs.declared.levels.Fit.{Fit}
-use Rattle.levels.specs.declared.levels.Fit.TheVariants.{Separates, Closes, Text}
+use Rattle.levels.specs.declared.levels.Fit.TheVariants.{Separates, Closes}
 use Rattle.levels.specs.Opened.{groups}
 use Rattle.spans.specs.declared.heads.HeadEnd.{HeadEnd}
 use Rattle.spans.specs.declared.heads.HeadEnd.TheVariants.{Line as EndsAtLine, Empty, End as EndsAtEnd, Long}
@@ -31,7 +31,6 @@ abbrev pub Closing : Fit → Type 0
 Closing (Separates zero) = ⊥
 Closing (Separates (suc i)) = Unit {0}
 Closing (Closes i) = Unit {0}
-Closing Text = ⊥
 
 -- it is settled what next tells: an entity, a closing, or the last entry
 abbrev pub Standing : Stage → Type 0
@@ -60,7 +59,6 @@ end_by (Some Clean) (suc depth) at = Faulty (fault 32 3 at)
 abbrev pub deeper_of : Fit → Fit
 deeper_of (Separates i) = Separates (suc i)
 deeper_of (Closes i) = Closes (suc i)
-deeper_of Text = Text
 
 -- the mark with which a line closes the innermost group, and where the reader stands then
 abbrev pub closing_by : Fit → (at : ℕ) → ℕ × Stage
@@ -68,12 +66,6 @@ closing_by (Separates zero) at = (4, Head)
 closing_by (Separates (suc i)) at = (4, AtGroupLine (Separates i) at)
 closing_by (Closes zero) at = (0, Between)
 closing_by (Closes (suc i)) at = (4, AtGroupLine (Closes i) at)
-closing_by Text at = (4, Between)
-
--- a group's number, 0 for none
-abbrev pub number_of : Option ℕ → ℕ
-number_of (Some n) = n
-number_of None = 0
 
 -- the entry x was told
 pub record Tells {S : Type 0} {G : Ghosts S} (source : S → SourceMeaning) (before after : Reader S G) (x : Entry) : Type 0 where

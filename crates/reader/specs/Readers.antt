@@ -1,30 +1,30 @@
 -- What a reader means. Assumes nothing.
-use Rattle.std.specs.Prelude.{ℕ, ◌+◌, false, List, [], ◌∷◌, Some, None, Option}
+use Rattle.std.specs.Prelude.{ℕ, ◌+◌, false, List, [], ◌∷◌, Some, None, Option, Ok, Err, Result}
 use Rattle.byte_lines.specs.Lines.{lines}
 use Rattle.source.specs.declared.ends.End.{End}
+use Rattle.source.specs.declared.ends.Fault.{Fault}
 use Rattle.source.specs.Meanings.{Meaning as SourceMeaning}
 use Rattle.coding.specs.Decoding.{Decoded}
 use Rattle.coding.specs.Decoders.{meaning as decoder_meaning, outlook}
 use Rattle.input.specs.Inputs.{Meaning as InputMeaning, meaning as input_meaning}
+use Rattle.message.specs.declared.events.Event.{Event}
 use Rattle.message.specs.Groups.{Group}
 use Rattle.message.specs.Entries.{Entry, ended, failed}
 use Rattle.message.specs.Rows.{passing, line_row, opening, row, entity_row}
 use Rattle.levels.specs.Opened.{groups}
-use Rattle.levels.specs.Fits.{role_by}
+use Rattle.levels.specs.Fits.{fit_role}
 use Rattle.scan.specs.declared.scans.Scan.{Scan}
 use Rattle.scan.specs.Streams.{Stop, raw_left, stop, end_at}
 use Rattle.calls.specs.ReaderMeaning.{Part, Meaning}
-use Rattle.reader.specs.declared.reader.Last.{Last}
-use Rattle.reader.specs.declared.reader.Last.TheVariants.{End as AtEnd, Fault as WithFault}
 use Rattle.reader.specs.declared.reader.Stage.{Stage}
 use Rattle.reader.specs.declared.reader.Stage.TheVariants.{Head, Body, Between, Line, Over}
 use Rattle.reader.specs.declared.reader.Reader.{Reader}
 use Rattle.source.specs.declared.sources.Source.{Ghosts}
 
 -- the entry that a message ends with
-abbrev pub last_of : Last → Entry
-last_of (AtEnd ev) = ended ev
-last_of (WithFault f) = failed f
+abbrev pub last_of : Result Event Fault → Entry
+last_of (Ok ev) = ended ev
+last_of (Err f) = failed f
 
 -- the entries that next has yet to tell, by the stage: inside the groups gs, with n entities so far, where the input means i, and the
 -- body at hand, or what is dropped, stops there
@@ -33,7 +33,7 @@ ahead_by Head gs n i s = entity_row i.ending gs n i.offset (lines i.left)
 ahead_by Body gs n i s = row i.ending gs n passing s.from s.lines
 ahead_by Between gs n i s = row i.ending gs n passing s.from s.lines
 ahead_by (Line fit at) gs n i s =
-    line_row (role_by gs fit) gs n passing at false (λ gs'. opening i.ending gs' (n + 1) i.offset (lines i.left))
+    line_row (fit_role gs fit) gs n passing at false (λ gs'. opening i.ending gs' (n + 1) i.offset (lines i.left))
     (λ gs' n' m'. row i.ending gs' n' m' i.offset (lines i.left))
 ahead_by (Over last) gs n i s = last_of last ∷ []
 

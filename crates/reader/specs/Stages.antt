@@ -1,7 +1,7 @@
 -- What a reader's stage asks of its counts and of its line. Assumes nothing.
-use Rattle.std.specs.Prelude.{ℕ, Bool, true, false, List, length, nat_lt}
+use Rattle.std.specs.Prelude.{ℕ, Bool, true, List, length, nat_lt}
 use Rattle.levels.specs.declared.levels.Fit.{Fit}
-use Rattle.levels.specs.declared.levels.Fit.TheVariants.{Separates, Closes, Text}
+use Rattle.levels.specs.declared.levels.Fit.TheVariants.{Separates, Closes}
 use Rattle.message.specs.Groups.{Group}
 use Rattle.levels.specs.Opened.{groups}
 use Rattle.scan.specs.declared.scans.Scan.{Scan}
@@ -26,7 +26,6 @@ slack (Over last) = 1
 abbrev pub is_of : Fit → List Group → Bool
 is_of (Separates i) gs = nat_lt i (length gs)
 is_of (Closes i) gs = nat_lt i (length gs)
-is_of Text gs = false
 
 -- a line behind which the reader stands is one of an open group
 abbrev pub fits_by : Stage → List Group → Bool

@@ -10,29 +10,34 @@ pub enum Told {
     Leaf(Event, Ticket),
     /// The message's fault.
     Fault(Fault),
-    /// Refusal 1: a part is open.
-    PartOpen,
-    /// Refusal 2: the head buffer has fewer than 8,192 bytes, or the table fewer than 64 records.
-    Short,
 }
 
-/// What read answers.
-#[derive(Clone, Copy)]
-pub enum Read {
-    /// So many decoded bytes were given.
+/// Why next tells nothing.
+#[derive(Clone, Copy, PartialEq, Eq, Debug)]
+pub enum NextRefusal {
+    /// Refusal 1: a part is open.
+    PartOpen = 1,
+    /// Refusal 2: the head buffer has fewer than 8,192 bytes, or the table fewer than 64 records.
+    Short = 2,
+}
+
+/// What read gives.
+#[derive(Clone, Copy, PartialEq, Eq, Debug)]
+pub enum Given {
+    /// So many decoded bytes.
     Bytes(usize),
     /// No byte is left.
     Done,
     /// No byte is left, and the body has this fault.
     Fault(Fault),
-    /// Refusal 3.
-    WrongTicket,
 }
 
-/// What pour answers: how many bytes it delivered, and the ticket where the part stays open.
-pub enum Poured {
-    /// No byte is left, and the part is closed.
-    Done(u32),
+/// Refusal 3, of read and of skip: the ticket is not that of an open part. After skip it is gone, and the reader stays as it was.
+#[derive(Clone, Copy, PartialEq, Eq, Debug)]
+pub struct WrongTicket;
+
+/// Why pour leaves the part open: how many bytes it delivered, and the ticket.
+pub enum Unpoured {
     /// 5: the sink's space is used up, and a byte is left.
     Full(u32, Ticket),
     /// No byte is left, and the body has this fault.
@@ -41,21 +46,12 @@ pub enum Poured {
     WrongTicket(Ticket),
 }
 
-/// What finish answers: the part is closed, or the ticket comes back.
-pub enum Finished {
-    Done,
+/// Why finish leaves the part open, with the ticket.
+pub enum Unfinished {
     /// The body has this fault.
     Fault(Fault, Ticket),
     /// Refusal 3.
     WrongTicket(Ticket),
     /// Refusal 4: a decoded byte is left.
     BytesLeft(Ticket),
-}
-
-/// What skip answers.
-#[derive(Clone, Copy)]
-pub enum Skipped {
-    Done,
-    /// Refusal 3: the ticket is gone, and the reader stays as it was.
-    WrongTicket,
 }

@@ -5,6 +5,6 @@ mod answers;
 mod reader;
 mod tickets;
 
-pub use answers::{Finished, Poured, Read, Skipped, Told};
+pub use answers::{Given, NextRefusal, Told, Unfinished, Unpoured, WrongTicket};
 pub use reader::Reader;
 pub use tickets::Ticket;

@@ -12,13 +12,6 @@ use source::{Fault, Source};
 mod making;
 mod nexts;
 
-/// What a message ends with.
-#[derive(Clone, Copy)]
-pub(crate) enum Last {
-    End(Event),
-    Fault(Fault),
-}
-
 /// Where a reader stands in the message.
 #[derive(Clone, Copy)]
 pub(crate) enum Stage {
@@ -30,8 +23,8 @@ pub(crate) enum Stage {
     Between,
     /// Behind a line of an open group, which stood at the offset `at`.
     Line { fit: Fit, at: u32 },
-    /// At the message's end.
-    Over(Last),
+    /// At the message's end, which is an event or a fault.
+    Over(Result<Event, Fault>),
 }
 
 /// Reads a message from a source.

@@ -1,5 +1,5 @@
 -- The moves of a scan.
-use Rattle.std.proofs.Common.{◌≡◌, ℕ, zero, suc, ◌+◌, ◌<◌, ◌≤◌, min, Bool, true, false, [], ◌++◌, length, take, is_some, sym, refl, ap, ◌∙◌, subst, append_assoc, append-nil, arith, length-append, length-take}
+use Rattle.std.proofs.Common.{◌≡◌, ℕ, zero, suc, ◌+◌, ◌<◌, ◌≤◌, min, Bool, true, false, [], ◌++◌, length, take, is_some, Some, None, Option, sym, refl, ap, ◌∙◌, subst, append_assoc, append-nil, arith, length-append, length-take}
 use Rattle.byte_lines.specs.Bytes.{Bytes}
 use Rattle.byte_lines.specs.Lines.{lines}
 use Rattle.source.specs.Meanings.{Meaning as SourceMeaning}
@@ -8,7 +8,6 @@ use Rattle.input.specs.Inputs.{Meaning, meaning, passed, shown, known, unseen}
 use Rattle.input.proofs.Windows.{shown-first}
 use Rattle.message.specs.Groups.{role}
 use Rattle.levels.specs.declared.levels.Fit.{Fit}
-use Rattle.levels.specs.declared.levels.Fit.TheVariants.{Separates, Closes, Text}
 use Rattle.levels.specs.declared.levels.Levels.{Levels}
 use Rattle.scan.specs.declared.places.Place.{Place}
 use Rattle.scan.specs.declared.places.Place.TheVariants.{Start, Return, Feed, Within, Ended}
@@ -21,7 +20,7 @@ use Rattle.scan.specs.Streams.{in_line, body_at, raw_left, stop_at, stop, owed, 
 use Rattle.scan.specs.Ready.{ready_in, ready_at, ready, place_past}
 use Rattle.scan.specs.Settles.{Found}
 use Rattle.scan.proofs.BodyPlaces.{begun-left, begun-stop, begun-weight, break-left, break-stop, break-weight, break_shown, last_shown, last-left, last-stop}
-use Rattle.scan.proofs.ReadyBytes.{ready_at_lem, ready-fits, ready-within, run-gives, run-stops, past-gives, past-stops}
+use Rattle.scan.proofs.ReadyBytes.{ready_at_lem, ready-fits, ready_within, run-gives, run-stops, past-gives, past-stops}
 use Rattle.scan.proofs.Endings.{unseen-known}
 use Rattle.source.specs.declared.sources.Source.{Ghosts}
 
@@ -37,11 +36,10 @@ owed-past Feed v all (suc (suc k)) h out = absurd (omega arith)
 owed-past Within v all k h out = absurd (out refl)
 owed-past (Ended f) v all k h out = omega arith
 
-owed_begun : (f : Fit) (held : Bool) → owed (place_by f held) ≤ owed (Start held)
-owed_begun (Separates i) held = omega arith
-owed_begun (Closes i) held = omega arith
-owed_begun Text true = omega arith
-owed_begun Text false = omega arith
+owed_begun : (f : Option Fit) (held : Bool) → owed (place_by f held) ≤ owed (Start held)
+owed_begun None true = omega arith
+owed_begun None false = omega arith
+owed_begun (Some f) held = omega arith
 
 module _ {S : Type 0} {G : Ghosts S} (source : S → SourceMeaning) where
   pub moves-none : (a : Scan S G) → Moves source a a []
@@ -139,7 +137,7 @@ module _ {S : Type 0} {G : Ghosts S} (source : S → SourceMeaning) where
         ))
 
   -- A line was tested with the answer f, and nothing was passed over.
-  module _ (a b : Scan S G) (held : Bool) (f : Fit) (at : a.place ≡ Start held) (to : b.place ≡ place_by f held) (levels : b.levels ≡ a.levels)
+  module _ (a b : Scan S G) (held : Bool) (f : Option Fit) (at : a.place ≡ Start held) (to : b.place ≡ place_by f held) (levels : b.levels ≡ a.levels)
       (means : meaning source b.input ≡ meaning source a.input) where
     pub moves-begun : role_by (groups a.levels) f ≡ role (groups a.levels) (leading (meaning source b.input).left) → InDepth (length (groups a.levels)) f → Moves source a b []
     unfolding raw_left stop
@@ -177,7 +175,7 @@ module _ {S : Type 0} {G : Ghosts S} (source : S → SourceMeaning) where
           )
 
       -- at the input's end
-      pub moves-last : b.place ≡ Ended Text → b.input ≡ i → next_of (shown i) ≡ Nothing → is_some (known i) ≡ true → Moves source a b []
+      pub moves-last : b.place ≡ Ended None → b.input ≡ i → next_of (shown i) ≡ Nothing → is_some (known i) ≡ true → Moves source a b []
       unfolding raw_left stop
       moves-last place input next end =
           let gs = groups a.levels in
@@ -213,7 +211,7 @@ module _ {S : Type 0} {G : Ghosts S} (source : S → SourceMeaning) where
         ap length g.gives,
         length-append (take k (raw_left source a)) (raw_left source b),
         length-take k (raw_left source a),
-        ready-within source a,
+        ready_within source a,
       )
 
   pub found-by : (s : Scan S G) (w : ℕ) {r r' : Next} → r ≡ r' → Found source r' s w → Found source r s w

@@ -1,21 +1,20 @@
 -- A raw body and its stop, by places.
-use Rattle.std.proofs.Common.{◌≡◌, ℕ, ◌+◌, ◌*◌, ◌<◌, ◌≤◌, Bool, true, false, cond, ◌&&◌, eqb, List, [], ◌∷◌, ◌++◌, length, drop, sym, refl, ap, ◌∙◌, append-nil, arith, length-append, length-drop}
+use Rattle.std.proofs.Common.{◌≡◌, ℕ, ◌+◌, ◌*◌, ◌<◌, ◌≤◌, Bool, true, false, cond, ◌&&◌, eqb, List, [], ◌∷◌, ◌++◌, length, drop, Some, None, Option, sym, refl, ap, ◌∙◌, append-nil, arith, length-append, length-drop}
 use mathlib.Core.Bool.{false≢true}
 use Rattle.std.proofs.lemmas.Bool.{eqb-true}
 use Rattle.byte_lines.specs.Bytes.{Bytes}
 use Rattle.byte_lines.specs.Lines.{Line, lines, onto, crlf}
 use Rattle.byte_lines.proofs.LineLaws.{onto_all}
 use Rattle.input.specs.Inputs.{Meaning, passed}
-use Rattle.message.specs.Groups.{Group, role, separates, closes, fits}
+use Rattle.message.specs.Groups.{Group, role, fits}
 use Rattle.message.specs.Bodies.{body_from}
 use Rattle.levels.specs.declared.levels.Fit.{Fit}
-use Rattle.levels.specs.declared.levels.Fit.TheVariants.{Separates, Closes, Text}
 use Rattle.scan.specs.declared.places.Place.{Place}
 use Rattle.scan.specs.declared.places.Place.TheVariants.{Start, Within}
 use Rattle.scan.specs.declared.places.Next.TheVariants.{Byte, Nothing, Unknown}
 use Rattle.levels.specs.Fits.{role_by, InDepth, leading, content}
 use Rattle.scan.specs.Streams.{in_line, body_at, stop_from, stop_in, stop_at, place_by, next_of, rank}
-use Rattle.levels.proofs.LineTests.{role_other, located_is}
+use Rattle.levels.proofs.LineTests.{role_other, fit_fits}
 use Rattle.levels.proofs.LeadingLines.{lines-crlf}
 
 -- Within a line.
@@ -61,28 +60,25 @@ module _ (gs : List Group) where
   stop-fits at (l ∷ ls) h = rw (h, stop_from)
 
   -- what the test of the line leads to
-  start-tested : (held : Bool) (s : Bytes) (f : Fit) → role_by gs f ≡ role gs (leading s) → InDepth (length gs) f → body_at gs (place_by f held) s ≡ body_from gs held (lines s)
+  start-tested : (held : Bool) (s : Bytes) (f : Option Fit) → role_by gs f ≡ role gs (leading s) → InDepth (length gs) f → body_at gs (place_by f held) s ≡ body_from gs held (lines s)
   unfolding leading
-  start-tested held s (Separates i) e d = start_fits held (lines s) (ap fits (sym e ∙ (located_is (λ x y z. separates x y z) (λ x y z w. refl) i gs d).3))
-  start-tested held s (Closes i) e d = start_fits held (lines s) (ap fits (sym e ∙ (located_is (λ x y z. closes x y z) (λ x y z w. refl) i gs d).3))
-  start-tested true s Text e d = start-text true (lines s) (ap fits (sym e))
-  start-tested false s Text e d = start-text false (lines s) (ap fits (sym e))
+  start-tested true s None e d = start-text true (lines s) (ap fits (sym e))
+  start-tested false s None e d = start-text false (lines s) (ap fits (sym e))
+  start-tested held s (Some f) e d = start_fits held (lines s) (ap fits (sym e) ∙ fit_fits gs f d)
 
-  stop-tested : (held : Bool) (at : ℕ) (s : Bytes) (f : Fit) → role_by gs f ≡ role gs (leading s) → InDepth (length gs) f → stop_at gs (place_by f held) at s ≡ stop_from gs at (lines s)
+  stop-tested : (held : Bool) (at : ℕ) (s : Bytes) (f : Option Fit) → role_by gs f ≡ role gs (leading s) → InDepth (length gs) f → stop_at gs (place_by f held) at s ≡ stop_from gs at (lines s)
   unfolding leading
-  stop-tested held at s (Separates i) e d = stop-fits at (lines s) (ap fits (sym e ∙ (located_is (λ x y z. separates x y z) (λ x y z w. refl) i gs d).3))
-  stop-tested held at s (Closes i) e d = stop-fits at (lines s) (ap fits (sym e ∙ (located_is (λ x y z. closes x y z) (λ x y z w. refl) i gs d).3))
-  stop-tested true at s Text e d = stop-text at (lines s) (ap fits (sym e))
-  stop-tested false at s Text e d = stop-text at (lines s) (ap fits (sym e))
+  stop-tested true at s None e d = stop-text at (lines s) (ap fits (sym e))
+  stop-tested false at s None e d = stop-text at (lines s) (ap fits (sym e))
+  stop-tested held at s (Some f) e d = stop-fits at (lines s) (ap fits (sym e) ∙ fit_fits gs f d)
 
-rank_by : (f : Fit) (held : Bool) → rank (place_by f held) < 4
-rank_by (Separates i) held = omega arith
-rank_by (Closes i) held = omega arith
-rank_by Text true = omega arith
-rank_by Text false = omega arith
+rank_by : (f : Option Fit) (held : Bool) → rank (place_by f held) < 4
+rank_by None true = omega arith
+rank_by None false = omega arith
+rank_by (Some f) held = omega arith
 
 -- a line at p was tested with the answer f, which led to p'; m is what is left there, as it was before
-module _ (gs : List Group) (held : Bool) (p p' : Place) (f : Fit) (at : p ≡ Start held) (to : p' ≡ place_by f held) (m m' : Meaning) (same : m' ≡ m) where
+module _ (gs : List Group) (held : Bool) (p p' : Place) (f : Option Fit) (at : p ≡ Start held) (to : p' ≡ place_by f held) (m m' : Meaning) (same : m' ≡ m) where
   pub begun-left : role_by gs f ≡ role gs (leading m'.left) → InDepth (length gs) f → body_at gs p' m'.left ≡ body_at gs p m.left
   begun-left e d =
       ap (λ (x : Place). body_at gs x m'.left) to
@@ -107,29 +103,29 @@ pair_is b c e = go (eqb b 13) (eqb c 10) refl refl e
   where
     go : (x y : Bool) → eqb b 13 ≡ x → eqb c 10 ≡ y → cond (x && y) Unknown Byte ≡ Unknown → (b ≡ 13) × (c ≡ 10)
     go true true p q k = (eqb-true b 13 p, eqb-true c 10 q)
-    go true false p q k = absurd (let z : ◌≡◌ {A = ℕ} 0 1 = cc in omega arith)
-    go false y p q k = absurd (let z : ◌≡◌ {A = ℕ} 0 1 = cc in omega arith)
+    go true false p q k = cc
+    go false y p q k = cc
 
 -- a CRLF is shown
 pub break_shown : (v : Bytes) → next_of v ≡ Unknown → 2 ≤ length v
-break_shown [] e = absurd (let z : ◌≡◌ {A = ℕ} 0 1 = cc in omega arith)
-break_shown (b ∷ []) e = absurd (let z : ◌≡◌ {A = ℕ} 0 1 = cc in omega arith)
+break_shown [] e = cc
+break_shown (b ∷ []) e = cc
 break_shown (b ∷ c ∷ v) e = omega arith
 
 break_lines : (v q : Bytes) → next_of v ≡ Unknown → lines (v ++ q) ≡ record { content = []; ended = true } ∷ lines (drop 2 (v ++ q))
-break_lines [] q e = absurd (let z : ◌≡◌ {A = ℕ} 0 1 = cc in omega arith)
-break_lines (b ∷ []) q e = absurd (let z : ◌≡◌ {A = ℕ} 0 1 = cc in omega arith)
+break_lines [] q e = cc
+break_lines (b ∷ []) q e = cc
 break_lines (b ∷ c ∷ v) q e = let h = pair_is b c e in lines-crlf b c (v ++ q) h.0 h.1
 
 -- nothing is shown
 pub last_shown : (v : Bytes) → next_of v ≡ Nothing → v ≡ []
 last_shown [] e = refl
-last_shown (b ∷ []) e = absurd (let z : ◌≡◌ {A = ℕ} 0 1 = cc in omega arith)
+last_shown (b ∷ []) e = cc
 last_shown (b ∷ c ∷ v) e = go (eqb b 13 && eqb c 10) e
   where
     go : (x : Bool) → cond x Unknown Byte ≡ Nothing → (b ∷ c ∷ v) ≡ []
-    go true k = absurd (let z : ◌≡◌ {A = ℕ} 0 1 = cc in omega arith)
-    go false k = absurd (let z : ◌≡◌ {A = ℕ} 0 1 = cc in omega arith)
+    go true k = cc
+    go false k = cc
 
 -- within a line at p; m is what is left
 module _ (gs : List Group) (p : Place) (here : p ≡ Within) (m : Meaning) (v q : Bytes) (front : m.left ≡ v ++ q) where

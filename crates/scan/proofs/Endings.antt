@@ -1,7 +1,8 @@
 -- What a scan knows where a body has ended.
-use Rattle.std.proofs.Common.{◌≡◌, ℕ, suc, ◌<◌, min, Bool, true, false, ◌&&◌, ◌||◌, eqb, leb, List, [], ◌∷◌, ◌++◌, length, is_some, Some, None, Option, sym, refl, ap, ◌∙◌, subst, inl, inr, append-nil, arith}
+use Rattle.std.proofs.Common.{◌≡◌, ℕ, ◌<◌, min, Bool, true, false, ◌&&◌, ◌||◌, eqb, leb, List, [], ◌∷◌, ◌++◌, length, is_some, Some, None, Option, sym, refl, ap, ◌∙◌, subst, inl, inr, append-nil, arith}
 use mathlib.Core.Bool.{false≢true}
 use Rattle.std.specs.Str.{bytes_eq}
+use Rattle.std.proofs.lemmas.List.{nil_from_length}
 use Rattle.std.proofs.lemmas.Bool.{eqb-true, eq-eqb, le-leb, lt-leb, cases_lt}
 use Rattle.byte_lines.specs.Bytes.{Bytes}
 use Rattle.source.specs.declared.ends.End.{End}
@@ -11,14 +12,14 @@ use Rattle.input.specs.Inputs.{meaning, shown, known, unseen, behind}
 use Rattle.input.proofs.Windows.{shown-first}
 use Rattle.message.specs.Groups.{Group, Role, separates, closes, text, inside, role, separator, closing_line}
 use Rattle.levels.specs.declared.levels.Fit.{Fit}
-use Rattle.levels.specs.declared.levels.Fit.TheVariants.{Separates, Closes, Text}
+use Rattle.levels.specs.declared.levels.Fit.TheVariants.{Separates, Closes}
 use Rattle.levels.specs.declared.levels.Levels.{Levels}
 use Rattle.scan.specs.declared.places.Place.{Place}
 use Rattle.scan.specs.declared.places.Place.TheVariants.{Ended}
 use Rattle.scan.specs.declared.scans.Scan.{Scan}
 use Rattle.levels.specs.Opened.{groups}
-use Rattle.levels.specs.Fits.{role_by, InDepth, leading, Decides}
-use Rattle.scan.specs.Ends.{separates_at, closes_at, enough, ends_by, tested, answer}
+use Rattle.levels.specs.Fits.{fit_role, role_by, FitsIn, InDepth, leading, Decides}
+use Rattle.scan.specs.Ends.{is_role, enough, ends_by, tested, answer}
 use Rattle.scan.specs.Streams.{raw_left, stop, body_at, stop_at, place_by}
 use Rattle.scan.specs.Settles.{Behind}
 use Rattle.levels.proofs.LeadingLines.{leading-none}
@@ -31,23 +32,27 @@ both false q e = absurd (false≢true e)
 
 -- The answer for a role.
 
-abbrev fit_by : Role → Fit
-fit_by (separates deeper g around) = Separates (length deeper)
-fit_by (closes deeper g around) = Closes (length deeper)
-fit_by text = Text
+abbrev fit_by : Role → Option Fit
+fit_by (separates deeper g around) = Some (Separates (length deeper))
+fit_by (closes deeper g around) = Some (Closes (length deeper))
+fit_by text = None
 
-separates_is : (i : ℕ) (r : Role) → separates_at i r ≡ true → fit_by r ≡ Separates i
-separates_is i (separates d g a) e = ap Separates (eqb-true (length d) i e)
-separates_is i (closes d g a) e = absurd (false≢true e)
-separates_is i text e = absurd (false≢true e)
+role_is : (f : Fit) (r : Role) → is_role f r ≡ true → fit_by r ≡ Some f
+role_is (Separates i) (separates d g a) e = ap (λ (n : ℕ). Some (Separates n)) (eqb-true (length d) i e)
+role_is (Separates i) (closes d g a) e = absurd (false≢true e)
+role_is (Separates i) text e = absurd (false≢true e)
+role_is (Closes i) (separates d g a) e = absurd (false≢true e)
+role_is (Closes i) (closes d g a) e = ap (λ (n : ℕ). Some (Closes n)) (eqb-true (length d) i e)
+role_is (Closes i) text e = absurd (false≢true e)
 
-closes_is : (i : ℕ) (r : Role) → closes_at i r ≡ true → fit_by r ≡ Closes i
-closes_is i (separates d g a) e = absurd (false≢true e)
-closes_is i (closes d g a) e = ap Closes (eqb-true (length d) i e)
-closes_is i text e = absurd (false≢true e)
+is_role_lem : (gs : List Group) (f : Fit) → FitsIn (length gs) f → is_role f (fit_role gs f) ≡ true
+is_role_lem gs (Separates i) h =
+    let l = located_is (λ d g a. separates d g a) (λ g h d a. refl) i gs h in ap (is_role (Separates i)) l.3 ∙ eq-eqb (length l.0) i l.4
+is_role_lem gs (Closes i) h =
+    let l = located_is (λ d g a. closes d g a) (λ g h d a. refl) i gs h in ap (is_role (Closes i)) l.3 ∙ eq-eqb (length l.0) i l.4
 
 -- the answer f is that of the line s
-abbrev pub Answers : List Group → (s : Bytes) → Fit → Type 0
+abbrev pub Answers : List Group → (s : Bytes) → Option Fit → Type 0
 Answers gs s f = (role_by gs f ≡ role gs s) × InDepth (length gs) f
 
 -- the role of a line by its tests against the innermost group, where r is its role in the groups around
@@ -85,25 +90,17 @@ enough_by v e h =
 enough_all : (v : Bytes) (e : Option End) → enough v e ≡ true → length v < 76 → is_some e ≡ true
 enough_all v e h short = sym (ap (λ (b : Bool). b || is_some e) (lt-leb 76 (length v) short)) ∙ h
 
-pub tested_begun : (ls : Levels) (f : Fit) (held : Bool) (v : Bytes) (e : Option End) (p : Place) → p ≡ place_by f held
+pub tested_begun : (ls : Levels) (f : Option Fit) (held : Bool) (v : Bytes) (e : Option End) (p : Place) → p ≡ place_by f held
     → Decides (groups ls) v f → InDepth (length (groups ls)) f → enough v e ≡ true → tested ls p v e ≡ true
-tested_begun ls f held v e p at is within h = ap (λ (x : Place). tested ls x v e) at ∙ go f held (is [] (λ _. refl) ∙ ap (λ (s : Bytes). role (groups ls) (leading s)) (append-nil v)) within
+tested_begun ls f held v e p at is within h =
+    ap (λ (x : Place). tested ls x v e) at ∙ go f held (is [] (λ _. refl) ∙ ap (λ (s : Bytes). role (groups ls) (leading s)) (append-nil v)) within
   where
-    go : (f : Fit) (held : Bool) → role_by (groups ls) f ≡ role (groups ls) (leading v) → InDepth (length (groups ls)) f → tested ls (place_by f held) v e ≡ true
-    go (Separates i) held k d =
-        let l = located_is (λ x y z. separates x y z) (λ x y z w. refl) i (groups ls) d in
-        ap (λ (r : Role). separates_at i r && enough v e) (sym k ∙ l.3) ∙ ap (λ (b : Bool). b && enough v e) (eq-eqb (length l.0) i l.4) ∙ h
-    go (Closes i) held k d =
-        let l = located_is (λ x y z. closes x y z) (λ x y z w. refl) i (groups ls) d in
-        ap (λ (r : Role). closes_at i r && enough v e) (sym k ∙ l.3) ∙ ap (λ (b : Bool). b && enough v e) (eq-eqb (length l.0) i l.4) ∙ h
-    go Text true k d = refl
-    go Text false k d = refl
+    go : (f : Option Fit) (held : Bool) → role_by (groups ls) f ≡ role (groups ls) (leading v) → InDepth (length (groups ls)) f → tested ls (place_by f held) v e ≡ true
+    go None true k d = refl
+    go None false k d = refl
+    go (Some f) held k d = ap (λ (r : Role). is_role f r && enough v e) (sym k) ∙ ap (λ (b : Bool). b && enough v e) (is_role_lem (groups ls) f d) ∙ h
 
 -- What follows where a body has ended.
-
-nothing : (v : Bytes) → eqb (length v) 0 ≡ true → v ≡ []
-nothing [] e = refl
-nothing (b ∷ v) e = absurd (omega (arith, eqb-true (suc (length v)) 0 e))
 
 -- nothing comes behind what is shown, once the end is known
 behind-known : (room : ℕ) (m : Meaning) (e : Option End) → is_some e ≡ true → behind room m e ≡ []
@@ -121,32 +118,28 @@ module _ (ls : Levels) (v q : Bytes) (e : Option End) (all : is_some e ≡ true 
       ∙ sym (near_decides ls v [] (λ _. refl) (min (length v) 76) refl)
       ∙ near_decides ls v q (λ short. all (enough_all v e h short)) (min (length v) 76) refl
 
-  ended-empty : ends_by (groups ls) Text v e ≡ true → v ++ q ≡ []
-  ended-empty t = let b = both (eqb (length v) 0) (is_some e) t in ap (λ (s : Bytes). s ++ q) (nothing v b.0) ∙ all b.1
+  ended-empty : ends_by (groups ls) None v e ≡ true → v ++ q ≡ []
+  ended-empty t = let b = both (eqb (length v) 0) (is_some e) t in ap (λ (s : Bytes). s ++ q) (nil_from_length v (eqb-true (length v) 0 b.0)) ∙ all b.1
 
-  ended-answers : (f : Fit) → ends_by (groups ls) f v e ≡ true → Answers (groups ls) (leading (v ++ q)) f
-  ended-answers (Separates i) t =
-      let b = both (separates_at i (role (groups ls) (leading v))) (enough v e) t in
-      let a = subst (Answers (groups ls) (leading v)) (separates_is i (role (groups ls) (leading v)) b.0) (answers (groups ls) (leading v)) in
-      (a.0 ∙ shown-decides b.1, a.1)
-  ended-answers (Closes i) t =
-      let b = both (closes_at i (role (groups ls) (leading v))) (enough v e) t in
-      let a = subst (Answers (groups ls) (leading v)) (closes_is i (role (groups ls) (leading v)) b.0) (answers (groups ls) (leading v)) in
-      (a.0 ∙ shown-decides b.1, a.1)
-  ended-answers Text t = (sym (ap (λ (s : Bytes). role (groups ls) (leading s)) (ended-empty t) ∙ role_other (groups ls) (leading []) no_line), tt)
+  ended-answers : (f : Option Fit) → ends_by (groups ls) f v e ≡ true → Answers (groups ls) (leading (v ++ q)) f
+  ended-answers None t = (sym (ap (λ (s : Bytes). role (groups ls) (leading s)) (ended-empty t) ∙ role_other (groups ls) (leading []) no_line), tt)
     where
       no_line : (t : Bytes) → leading [] ≡ 45 ∷ (45 ∷ t) → ⊥
       no_line t e = omega (arith, ap length (sym leading-none ∙ e))
+  ended-answers (Some f) t =
+      let r = role (groups ls) (leading v) in
+      let b = both (is_role f r) (enough v e) t in
+      let a = subst (Answers (groups ls) (leading v)) (role_is f r b.0) (answers (groups ls) (leading v)) in
+      (a.0 ∙ shown-decides b.1, a.1)
 
-  ended-last : (f : Fit) → ends_by (groups ls) f v e ≡ true → f ≡ Text → v ++ q ≡ []
-  ended-last (Separates i) t k = absurd (let z : ◌≡◌ {A = ℕ} 0 1 = cc in omega arith)
-  ended-last (Closes i) t k = absurd (let z : ◌≡◌ {A = ℕ} 0 1 = cc in omega arith)
-  ended-last Text t k = ended-empty t
+  ended-last : (f : Option Fit) → ends_by (groups ls) f v e ≡ true → f ≡ None → v ++ q ≡ []
+  ended-last None t k = ended-empty t
+  ended-last (Some f) t k = cc
 
 -- wherever a scan's place is that of an ended body, it stands behind that body
-pub behind-ended : {S : Type 0} {G : Ghosts S} (source : S → Meaning) (s : Scan S G) (f : Fit) → s.place ≡ Ended f → Behind source s
+pub behind_ended : {S : Type 0} {G : Ghosts S} (source : S → Meaning) (s : Scan S G) (f : Option Fit) → s.place ≡ Ended f → Behind source s
 unfolding raw_left stop
-behind-ended source s f at =
+behind_ended source s f at =
     let gs = groups s.levels in
     let i = s.input in
     let m = meaning source i in
@@ -165,6 +158,6 @@ behind-ended source s f at =
     }
 
 -- at the input's end, the end is known
-pub ended-known : {S : Type 0} {G : Ghosts S} (s : Scan S G) → s.place ≡ Ended Text → is_some (known s.input) ≡ true
+pub ended-known : {S : Type 0} {G : Ghosts S} (s : Scan S G) → s.place ≡ Ended None → is_some (known s.input) ≡ true
 ended-known s at =
     (both (eqb (length (shown s.input)) 0) (is_some (known s.input)) (sym (ap (λ (p : Place). tested s.levels p (shown s.input) (known s.input)) at) ∙ s.ended)).1

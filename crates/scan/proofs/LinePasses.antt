@@ -1,7 +1,7 @@
 -- A line of a group is passed over whole.
-use Rattle.std.proofs.Common.{◌≡◌, ℕ, ◌+◌, ◌<◌, ◌≤◌, Bool, true, false, cond, ltb, List, [], ◌∷◌, ◌++◌, length, take, drop, sym, refl, ap, ◌∙◌, subst, inl, inr, arith, length-take}
+use Rattle.std.proofs.Common.{◌≡◌, ℕ, ◌+◌, ◌<◌, ◌≤◌, Bool, true, false, cond, ltb, [], ◌∷◌, ◌++◌, length, take, drop, sym, ap, ◌∙◌, subst, inl, inr, arith, length-take}
 use mathlib.Core.Bool.{false≢true}
-use Rattle.std.proofs.lemmas.List.{append_assoc, take-append-drop, take-append-le, drop-append-le, drop_all, length-take-le}
+use Rattle.std.proofs.lemmas.List.{append_assoc, take-append-drop, take-append-le, drop-append-le, drop_all, length-take-le, nil_from_length}
 use Rattle.std.proofs.lemmas.Bool.{cases_Bool, cases_lt, ltb-true}
 use Rattle.byte_lines.specs.Bytes.{Bytes}
 use Rattle.byte_lines.specs.Lines.{Line, lines, width}
@@ -9,15 +9,12 @@ use Rattle.byte_lines.specs.Spans.{FirstLine}
 use Rattle.byte_lines.proofs.LineLaws.{first}
 use Rattle.byte_lines.proofs.LineFronts.{first-stays}
 use Rattle.message.specs.Groups.{role, text, fits}
-use Rattle.message.proofs.HeadSpans.{open_last}
+use Rattle.message.proofs.HeadSpans.{line, open_last}
 use Rattle.levels.specs.declared.levels.Levels.{Levels}
 use Rattle.levels.specs.Opened.{groups}
-use Rattle.levels.specs.Fits.{leading, content}
-use Rattle.levels.proofs.LeadingLines.{leading-none, leading_near}
+use Rattle.levels.specs.Fits.{leading}
+use Rattle.levels.proofs.LeadingLines.{leading-none, leading_is, leading_near}
 use Rattle.levels.proofs.LineTests.{role_other, long_text}
-
-abbrev line : Bytes → Bool → Line
-line s t = record { content = s; ended = t }
 
 -- the first line of a text takes so many bytes
 pub record FirstIs (s : Bytes) (wide : ℕ) : Type 0 where
@@ -27,10 +24,6 @@ pub record FirstIs (s : Bytes) (wide : ℕ) : Type 0 where
   pub some : 0 < wide
   pub leads : leading s ≡ line.content
 
-leads_by : (s : Bytes) (l : Line) (r : List Line) → lines s ≡ l ∷ r → leading s ≡ l.content
-unfolding leading
-leads_by s l r e = ap content e
-
 -- the view v of the text s shows 76 bytes or all, and its first line was looked for
 module _ (ls : Levels) (s v u : Bytes) (len wide : ℕ) (e : s ≡ v ++ u) (all : length v < 76 → s ≡ v) (f : FirstLine v len wide) (fit : fits (role (groups ls) (leading s)) ≡ true) where
   some-shown : 0 < length v
@@ -38,15 +31,11 @@ module _ (ls : Levels) (s v u : Bytes) (len wide : ℕ) (e : s ≡ v ++ u) (all 
       elim (cases_lt 0 (length v)) [
         | inl h ↦ h
         | inr h ↦
-            let none : s ≡ [] = all (omega arith) ∙ empty v (omega arith) in
+            let none : s ≡ [] = all (omega arith) ∙ nil_from_length v (omega arith) in
             let plain : role (groups ls) (leading s) ≡ text = ap (λ (z : Bytes). role (groups ls) (leading z)) none ∙ role_other (groups ls) (leading []) no_line in
             absurd (false≢true (ap fits (sym plain) ∙ fit))
       ]
     where
-      empty : (w : Bytes) → length w ≡ 0 → w ≡ []
-      empty [] p = refl
-      empty (b ∷ bs) p = absurd (omega arith)
-
       no_line : (t : Bytes) → leading [] ≡ 45 ∷ (45 ∷ t) → ⊥
       no_line t p = omega (arith, ap length (sym leading-none ∙ p))
 
@@ -63,7 +52,7 @@ module _ (ls : Levels) (s v u : Bytes) (len wide : ℕ) (e : s ≡ v ++ u) (all 
         splits = found;
         counts = omega (arith, length-take-le len v (omega (arith, f.within)));
         some = omega arith;
-        leads = leads_by s (line (take len v) true) (lines (drop wide s)) found;
+        leads = leading_is s (line (take len v) true) (lines (drop wide s)) found;
       }
 
   -- without one, the view is all
@@ -74,7 +63,7 @@ module _ (ls : Levels) (s v u : Bytes) (len wide : ℕ) (e : s ≡ v ++ u) (all 
 
   long : ltb len wide ≡ false → 76 ≤ length v → 74 < length (leading s)
   long t h =
-      let whole-view : leading v ≡ v = leads_by v (line v false) [] (opened t) in
+      let whole-view : leading v ≡ v = leading_is v (line v false) [] (opened t) in
       let cut : take 76 s ≡ take 76 v = ap (take 76) e ∙ take-append-le 76 v u h in
       let near : 75 ≤ length (leading (take 76 v)) =
       elim (leading_near 76 v) [ inl p ↦ omega (arith, ap length p, ap length whole-view) | inr p ↦ omega (arith, p.0) ] in
@@ -95,7 +84,7 @@ module _ (ls : Levels) (s v u : Bytes) (len wide : ℕ) (e : s ≡ v ++ u) (all 
         splits = one ∙ ap (λ (z : Bytes). line s false ∷ lines z) (sym none);
         counts = omega arith;
         some = omega (arith, some-shown, ap length same);
-        leads = leads_by s (line s false) [] one;
+        leads = leading_is s (line s false) [] one;
       }
 
   pub first_is : FirstIs s wide

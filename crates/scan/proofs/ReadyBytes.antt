@@ -1,9 +1,10 @@
 -- The bytes of a raw body that stand ready.
-use Rattle.std.proofs.Common.{◌≡◌, ℕ, zero, suc, ◌+◌, ◌<◌, ◌≤◌, min, Bool, true, false, cond, not, ◌&&◌, eqb, List, [], ◌∷◌, ◌++◌, length, get_or, take, drop, is_some, sym, refl, ap, ◌∙◌, inl, inr, arith, length-take, length-take-le, drop-cons, take_at}
+use Rattle.std.proofs.Common.{◌≡◌, ℕ, zero, suc, ◌+◌, ◌<◌, ◌≤◌, min, Bool, true, false, cond, not, ◌&&◌, eqb, List, [], ◌∷◌, ◌++◌, length, take, drop, is_some, sym, refl, ap, ◌∙◌, arith, length-take, length-take-le, take_at}
 use mathlib.Core.Bool.{false≢true}
 use lib.Seq.{take-nil}
-use Rattle.std.proofs.lemmas.List.{drop_all, append-nil}
-use Rattle.std.proofs.lemmas.Bool.{eqb-true, eqb-false, eq-eqb, cases_Bool}
+use Rattle.std.proofs.lemmas.List.{append-nil}
+use Rattle.std.proofs.lemmas.List.Sums.{prefix_len-le-length}
+use Rattle.std.proofs.lemmas.Bool.{eqb-false}
 use Rattle.byte_lines.specs.Bytes.{Bytes}
 use Rattle.byte_lines.specs.Lines.{lines, onto}
 use Rattle.byte_lines.proofs.LineLaws.{onto_all}
@@ -26,54 +27,22 @@ use Rattle.source.specs.declared.sources.Source.{Ghosts}
 
 -- The bytes before the first CR.
 
-until_cr_lem : (b : ℕ) (s : Bytes) → b ≡ 13 → until_cr (b ∷ s) ≡ 0
-unfolding until_cr
-until_cr_lem b s e = rw (eq-eqb b 13 e, until_cr)
-
-until_on : (b : ℕ) (s : Bytes) → eqb b 13 ≡ false → until_cr (b ∷ s) ≡ suc (until_cr s)
-unfolding until_cr
-until_on b s e = rw (e, until_cr)
-
-pub until_here : (s : Bytes) (i : ℕ) → i < length s → get_or s i 0 ≡ 13 → until_cr (drop i s) ≡ 0
-until_here s i h e = ap until_cr (drop-cons s i 0 h) ∙ until_cr_lem (get_or s i 0) (drop (suc i) s) e
-
-pub until_next : (s : Bytes) (i : ℕ) → i < length s → (get_or s i 0 ≡ 13 → ⊥) → until_cr (drop i s) ≡ suc (until_cr (drop (suc i) s))
-until_next s i h e = ap until_cr (drop-cons s i 0 h) ∙ until_on (get_or s i 0) (drop (suc i) s) (no-cr (get_or s i 0) e)
-  where
-    no-cr : (b : ℕ) → (b ≡ 13 → ⊥) → eqb b 13 ≡ false
-    no-cr b h = elim (cases_Bool (eqb b 13)) [ inl t ↦ absurd (h (eqb-true b 13 t)) | inr f ↦ f ]
-
-pub until_none : (s : Bytes) (i : ℕ) → length s ≤ i → until_cr (drop i s) ≡ 0
-unfolding until_cr
-until_none s i h = ap until_cr (drop_all i s h)
-
-pub until_fits : (s : Bytes) → until_cr s ≤ length s
-unfolding until_cr
-until_fits [] = omega arith
-until_fits (b ∷ s) = go (eqb b 13) (until_fits s)
-  where
-    go : (t : Bool) → until_cr s ≤ length s → elim t [ true ↦ 0 | false ↦ suc (until_cr s) ] ≤ suc (length s)
-    go true h = omega arith
-    go false h = omega arith
-
 pub until_take : (k : ℕ) (s : Bytes) → until_cr (take k s) ≡ min k (until_cr s)
-unfolding until_cr
 until_take zero s = omega arith
 until_take (suc k) [] = omega arith
 until_take (suc k) (b ∷ s) = go (eqb b 13) (until_take k s)
   where
-    go : (t : Bool) → until_cr (take k s) ≡ min k (until_cr s) → elim t [ true ↦ 0 | false ↦ suc (until_cr (take k s)) ] ≡ min (suc k) (elim t [ true ↦ 0 | false ↦ suc (until_cr s) ])
+    go : (t : Bool) → until_cr (take k s) ≡ min k (until_cr s) → cond (not t) (1 + until_cr (take k s)) 0 ≡ min (suc k) (cond (not t) (1 + until_cr s) 0)
     go true e = omega arith
     go false e = omega arith
 
 -- they stand in one line
 until_lines : (n : ℕ) (v q : Bytes) → n ≤ until_cr v → lines (v ++ q) ≡ onto_all (take n v) (lines (drop n (v ++ q)))
-unfolding until_cr
 until_lines zero v q h = refl
 until_lines (suc n) [] q h = absurd (omega arith)
 until_lines (suc n) (b ∷ v) q h = go (eqb b 13) refl h (until_lines n v q)
   where
-    go : (t : Bool) → eqb b 13 ≡ t → suc n ≤ elim t [ true ↦ 0 | false ↦ suc (until_cr v) ] → (n ≤ until_cr v → lines (v ++ q) ≡ onto_all (take n v) (lines (drop n (v ++ q))))
+    go : (t : Bool) → eqb b 13 ≡ t → suc n ≤ cond (not t) (1 + until_cr v) 0 → (n ≤ until_cr v → lines (v ++ q) ≡ onto_all (take n v) (lines (drop n (v ++ q))))
         → lines ((b ∷ v) ++ q) ≡ onto_all (take (suc n) (b ∷ v)) (lines (drop (suc n) ((b ∷ v) ++ q)))
     go true e k rec = absurd (omega arith)
     go false e k rec = lines_cons b (v ++ q) (eqb-false b 13 e) ∙ ap (onto b) (rec (omega arith))
@@ -101,7 +70,7 @@ module _ (v : Bytes) (all : Bool) where
     where
       go : (t : Bool) → lone_cr v all ≡ t → cond t 1 (until_cr v) ≤ length v
       go true e = omega (arith, lone_some v all e)
-      go false e = until_fits v
+      go false e = prefix_len-le-length _ v
 
   -- what stands ready stands in the line at hand
   pub ready-lines : (q : Bytes) → (all ≡ true → q ≡ []) → (n : ℕ) → n ≤ ready_in v all → lines (v ++ q) ≡ onto_all (take n v) (lines (drop n (v ++ q)))
@@ -115,19 +84,19 @@ module _ (v : Bytes) (all : Bool) where
 
 -- a byte that is next stands ready
 pub ready_next : (v : Bytes) (all : Bool) → next_of v ≡ Byte → (length v < 2 → all ≡ true) → 0 < ready_in v all
-ready_next [] all e h = absurd (let z : ◌≡◌ {A = ℕ} 0 1 = cc in omega arith)
+ready_next [] all e h = cc
 ready_next (b ∷ []) all e h = go (eqb b 13) refl all (h (omega arith))
   where
-    go : (t : Bool) → eqb b 13 ≡ t → (u : Bool) → u ≡ true → 0 < cond (t && u) 1 (until_cr (b ∷ []))
+    go : (t : Bool) → eqb b 13 ≡ t → (u : Bool) → u ≡ true → 0 < cond (t && u) 1 (cond (not t) 1 0)
     go true p true k = omega arith
     go true p false k = absurd (false≢true k)
-    go false p u k = omega (arith, until_on b [] p)
+    go false p u k = omega arith
 ready_next (b ∷ c ∷ v) all e h = go (eqb b 13) refl (eqb c 10) e
   where
-    go : (t : Bool) → eqb b 13 ≡ t → (u : Bool) → cond (t && u) Unknown Byte ≡ Byte → 0 < cond (t && not u) 1 (until_cr (b ∷ (c ∷ v)))
-    go true p true k = absurd (let z : ◌≡◌ {A = ℕ} 0 1 = cc in omega arith)
+    go : (t : Bool) → eqb b 13 ≡ t → (u : Bool) → cond (t && u) Unknown Byte ≡ Byte → 0 < cond (t && not u) 1 (cond (not t) (1 + until_cr (c ∷ v)) 0)
+    go true p true k = cc
     go true p false k = omega arith
-    go false p u k = omega (arith, until_on b (c ∷ v) p)
+    go false p u k = omega arith
 
 -- At a place: v is shown of what is left, and q comes behind it.
 module _ (gs : List Group) (m : Meaning) (v q : Bytes) (all : Bool) (front : m.left ≡ v ++ q) (none : all ≡ true → q ≡ []) (n : ℕ) (h : n ≤ ready_in v all) where
@@ -227,8 +196,8 @@ module _ {S : Type 0} {G : Ghosts S} (source : S → SourceMeaning) (s : Scan S 
   ready-waits = waiting_many s.place (shown s.input) (is_some (known s.input))
 
   -- no more stand ready than are left
-  pub ready-within : ready s ≤ length (raw_left source s)
-  ready-within =
+  pub ready_within : ready s ≤ length (raw_left source s)
+  ready_within =
       let n = ready s in
       let w = waiting s.place (shown s.input) in
       omega (arith, ap length (ready-front n (omega arith)), length-take-le n w ready-waits, length-take n (raw_left source s))

@@ -5,7 +5,7 @@ use Rattle.source.specs.Meanings.{Meaning}
 use Rattle.input.specs.Inputs.{meaning, known}
 use Rattle.message.specs.Groups.{role, fits}
 use Rattle.levels.specs.Opened.{groups}
-use Rattle.levels.specs.Fits.{role_by, InDepth}
+use Rattle.levels.specs.Fits.{fit_role, FitsIn}
 use Rattle.scan.specs.declared.scans.lines.GroupLine.{GroupLine}
 use Rattle.scan.specs.declared.scans.Scan.{Scan}
 use Rattle.scan.specs.Streams.{stop, passed_over, owed}
@@ -23,9 +23,9 @@ pub record BehindLine {S : Type 0} {G : Ghosts S} (source : S → Meaning) (befo
   pub line : Line
   pub here : stop source before ≡ record { from = r.at; lines = line ∷ lines (meaning source after.input).left }
   pub next : (meaning source after.input).offset ≡ r.at + width line
-  pub is : role_by (groups before.levels) r.fit ≡ role (groups before.levels) line.content
-  pub fit : fits (role_by (groups before.levels) r.fit) ≡ true
-  pub depth : InDepth (length (groups before.levels)) r.fit
+  pub is : fit_role (groups before.levels) r.fit ≡ role (groups before.levels) line.content
+  pub fit : fits (fit_role (groups before.levels) r.fit) ≡ true
+  pub depth : FitsIn (length (groups before.levels)) r.fit
   pub further : passed_over before < passed_over after
 
 -- the input's end ended the body, and the scan stands there

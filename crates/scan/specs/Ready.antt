@@ -1,5 +1,6 @@
 -- How many bytes of a raw body stand ready. Assumes nothing.
-use Rattle.std.specs.Prelude.{ℕ, suc, Bool, true, false, cond, not, ◌&&◌, [], ◌∷◌, is_some, ◌==◌}
+use Rattle.std.specs.Prelude.{ℕ, Bool, false, cond, not, ◌&&◌, [], ◌∷◌, is_some, ◌==◌}
+use Rattle.std.specs.List.{position_or_len}
 use Rattle.byte_lines.specs.Bytes.{Bytes}
 use Rattle.byte_lines.specs.Lines.{crlf}
 use Rattle.input.specs.Inputs.{shown, known}
@@ -9,9 +10,8 @@ use Rattle.scan.specs.declared.scans.Scan.{Scan}
 use Rattle.source.specs.declared.sources.Source.{Ghosts}
 
 -- how many bytes stand before the first CR
-unfoldable pub until_cr : Bytes → ℕ
-until_cr [] = 0
-until_cr (b ∷ s) = elim (b == 13) [ true ↦ 0 | false ↦ suc (until_cr s) ]
+abbrev pub until_cr : Bytes → ℕ
+until_cr s = position_or_len (λ b. b == 13) s
 
 -- v is shown, and begins with a CR that no LF follows; `all` says that nothing comes behind v
 abbrev pub lone_cr : (v : Bytes) → (all : Bool) → Bool

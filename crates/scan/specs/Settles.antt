@@ -1,10 +1,9 @@
 -- What it is for a scan to be settled. Assumes nothing.
-use Rattle.std.specs.Prelude.{◌≡◌, ℕ, ◌<◌, [], length}
+use Rattle.std.specs.Prelude.{◌≡◌, ℕ, ◌<◌, [], length, None}
 use Rattle.byte_lines.specs.Lines.{lines}
 use Rattle.source.specs.Meanings.{Meaning}
 use Rattle.input.specs.Inputs.{meaning}
 use Rattle.message.specs.Groups.{role}
-use Rattle.levels.specs.declared.levels.Fit.TheVariants.{Text}
 use Rattle.scan.specs.declared.places.Place.TheVariants.{Ended}
 use Rattle.scan.specs.declared.places.Next.{Next}
 use Rattle.scan.specs.declared.places.Next.TheVariants.{Byte, Nothing, Unknown}
@@ -16,13 +15,13 @@ use Rattle.scan.specs.Streams.{raw_left, stop, weight}
 use Rattle.scan.specs.Ready.{ready}
 use Rattle.source.specs.declared.sources.Source.{Ghosts}
 
--- the scan stands behind the body: where it stops, at a line that is as the scan's answer says, or at the input's end, and then the answer is text
+-- the scan stands behind the body: where it stops, at a line that is as the scan's answer says, or at the input's end, and then the answer is none
 pub record Behind {S : Type 0} {G : Ghosts S} (source : S → Meaning) (s : Scan S G) : Type 0 where
   pub none : raw_left source s ≡ []
   pub here : stop source s ≡ record { from = (meaning source s.input).offset; lines = lines (meaning source s.input).left }
   pub line : role_by (groups s.levels) (answer s.place) ≡ role (groups s.levels) (leading (meaning source s.input).left)
   pub within : InDepth (length (groups s.levels)) (answer s.place)
-  pub at_end : answer s.place ≡ Text → (meaning source s.input).left ≡ []
+  pub at_end : answer s.place ≡ None → (meaning source s.input).left ≡ []
   pub place : s.place ≡ Ended (answer s.place)
 
 -- what was found to come next, where w was the weight before

@@ -1,5 +1,5 @@
 -- A leaf's raw body from where a scan stands. Assumes nothing.
-use Rattle.std.specs.Prelude.{◌≡◌, ℕ, ◌+◌, ◌*◌, ◌≤◌, Bool, true, false, cond, ◌&&◌, List, [], ◌∷◌, ◌++◌, length, ◌==◌}
+use Rattle.std.specs.Prelude.{◌≡◌, ℕ, ◌+◌, ◌*◌, ◌≤◌, Bool, true, false, cond, ◌&&◌, List, [], ◌∷◌, ◌++◌, length, Some, None, Option, ◌==◌}
 use Rattle.byte_lines.specs.Bytes.{Bytes}
 use Rattle.byte_lines.specs.Lines.{Line, lines, width}
 use Rattle.source.specs.declared.ends.End.{End}
@@ -9,7 +9,6 @@ use Rattle.input.specs.Inputs.{meaning}
 use Rattle.message.specs.Groups.{Group, role, fits}
 use Rattle.message.specs.Bodies.{body_from, end_in}
 use Rattle.levels.specs.declared.levels.Fit.{Fit}
-use Rattle.levels.specs.declared.levels.Fit.TheVariants.{Separates, Closes, Text}
 use Rattle.scan.specs.declared.places.Place.{Place}
 use Rattle.scan.specs.declared.places.Place.TheVariants.{Start, Return, Feed, Within, Ended}
 use Rattle.scan.specs.declared.places.Next.{Next}
@@ -93,10 +92,9 @@ abbrev pub AtLine : {S : Type 0} {G : Ghosts S} → Scan S G → Type 0
 AtLine s = s.place ≡ Start false
 
 -- the place at a line's start, by what the line is
-abbrev pub place_by : Fit → (held : Bool) → Place
-place_by (Separates i) held = Ended (Separates i)
-place_by (Closes i) held = Ended (Closes i)
-place_by Text held = cond held Return Within
+abbrev pub place_by : Option Fit → (held : Bool) → Place
+place_by None held = cond held Return Within
+place_by (Some f) held = Ended (Some f)
 
 -- what comes next within a line, by a view of two bytes or of all that is left
 abbrev pub next_of : Bytes → Next

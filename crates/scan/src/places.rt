@@ -11,8 +11,8 @@ pub(crate) enum Place {
     Feed,
     /// Within a line of the body.
     Within,
-    /// Behind the body: before the line that ends it, which the line test answered so, or at the input's end, with `Fit::Text`.
-    Ended(Fit),
+    /// Behind the body: before the line that ends it, which the line test answered so, or at the input's end, with none.
+    Ended(Option<Fit>),
 }
 
 /// What comes next in a body.

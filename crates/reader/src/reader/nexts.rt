@@ -1,40 +1,27 @@
-ghost use Rattle.std.specs.Prelude.{◌≡◌, ◌+◌, ◌<◌, ◌≤◌, true, [], ◌∷◌, length, ◌≢◌};
-ghost use Rattle.coding.specs.declared.decoder.Coding.TheVariants.{Plain as NoCoding};
-ghost use Rattle.head.specs.BoundaryBytes.{boundary_bytes};
-ghost use Rattle.input.specs.Inputs.{meaning as input_meaning, shown};
-ghost use Rattle.message.specs.declared.events.Kind.TheVariants.{Leaf as ALeaf, Group as AGroup};
-ghost use Rattle.message.specs.Entries.{closed, event as event_of};
-ghost use Rattle.message.specs.Groups.{innermost, fits, role};
+ghost use Rattle.std.specs.Prelude.{◌≡◌, [], ◌∷◌, ◌≢◌};
+ghost use Rattle.source.specs.Meanings.{fault};
+ghost use Rattle.message.specs.Entries.{closed};
 ghost use Rattle.message.specs.Rows.{last_entry};
-ghost use Rattle.levels.specs.Opened.{groups};
-ghost use Rattle.levels.specs.Fits.{InDepth, leading};
-ghost use Rattle.scan.specs.Streams.{AtLine};
-ghost use Rattle.calls.specs.Calls as calls;
-ghost use Rattle.reader.specs.Answers.{told_of};
+ghost use Rattle.levels.specs.Fits.{FitsIn};
 ghost use Rattle.reader.specs.Readers.{meaning, last_of};
-ghost use Rattle.reader.specs.Nexts.{Passed, end_by, Standing, Closing, closing_by, number_of, deeper_of, Tells, LeafOpens, GroupOpens};
+ghost use Rattle.reader.specs.Nexts.{Passed, end_by, Standing, Closing, closing_by, deeper_of, Tells};
 ghost use Rattle.reader.specs.declared.reader.Stage.TheVariants.{Body as InBody, Between as IsBetween, Line as AtGroupLine};
 
-use super::{Last, Reader, Stage};
-use crate::answers::Told;
-use crate::tickets::Ticket;
-use coding::{Coding, Decoder};
-use head::Boundary;
+use super::{Reader, Stage};
+use coding::Coding;
 use levels::Fit;
 use message::{Event, Kind};
 use scan::GroupLine;
 use source::{End, Fault, Source};
-use spans::HeadEnd;
 
 /// The fit of a line where one group more is open inside the others.
 fn deeper(fit: Fit) -> Fit
-    requires { InDepth 8 fit }
+    requires { FitsIn 8 fit }
     ensures { result ≡ deeper_of fit }
 {
     match fit {
         Fit::Separates(i) => Fit::Separates(i + 1),
         Fit::Closes(i) => Fit::Closes(i + 1),
-        Fit::Text => Fit::Text,
     }
 }
 
@@ -59,17 +46,17 @@ fn closing(fit: Fit, at: u32) -> (u32, Stage)
                 at,
             },
         ),
-        Fit::Text => (4, Stage::Between),
     }
 }
 
-/// The number of a group, 0 for none.
-fn number_of(group: Option<u32>) -> u32
-    ensures { result ≡ number_of group }
+/// The fault of a message that ends at the offset `at` inside a group.
+fn unclosed(at: u32) -> Fault
+    ensures { result ≡ fault 32 3 at }
 {
-    match group {
-        Some(number) => number,
-        None => 0,
+    Fault {
+        number: 32,
+        layer: 3,
+        place: at,
     }
 }
 
@@ -78,22 +65,17 @@ fn end_in(end: Option<End>, depth: u32, at: u32) -> End
     ensures { result ≡ end_by end depth at }
 {
     match end {
-        Some(End::Faulty(fault)) => End::Faulty(fault),
-        Some(End::Clean) if depth > 0 => End::Faulty(Fault {
-            number: 32,
-            layer: 3,
-            place: at,
-        }),
-        _ => End::Clean,
+        Some(End::Clean) if depth > 0 => End::Faulty(unclosed(at)),
+        _ => end.unwrap_or(End::Clean),
     }
 }
 
 /// What a message of so many entities ends with, at the offset `at`.
-fn last_entry(end: End, entities: u32, at: u32) -> Last
+fn last_entry(end: End, entities: u32, at: u32) -> Result<Event, Fault>
     ensures { last_of result ∷ [] ≡ last_entry end entities at }
 {
     match end {
-        End::Clean => Last::End(Event {
+        End::Clean => Ok(Event {
             kind: Kind::End,
             number: entities,
             parent: 0,
@@ -103,7 +85,7 @@ fn last_entry(end: End, entities: u32, at: u32) -> Last
             marks: 0,
             fields: 0,
         }),
-        End::Faulty(fault) => Last::Fault(fault),
+        End::Faulty(fault) => Err(fault),
     }
 }
 
@@ -158,7 +140,7 @@ impl<S: Source> Reader<S> {
         ensures { Tells S.Source.meaning self.old self.new (closed result) }
     {
         let (marks, stage) = closing(fit, at);
-        let number = number_of(self.scan.pop());
+        let number = self.scan.pop().unwrap_or(0);
         self.stage = stage;
         Event {
             kind: Kind::Close,

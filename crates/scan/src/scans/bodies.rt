@@ -10,12 +10,13 @@ use levels::{Fit, NEAR};
 use source::Source;
 
 /// The place at a line's start, by what the line is.
-fn opening(fit: Fit, held: bool) -> Place
+fn opening(fit: Option<Fit>, held: bool) -> Place
     ensures { result ≡ place_by fit held }
 {
     match fit {
-        Fit::Separates(_) | Fit::Closes(_) => Place::Ended(fit),
-        Fit::Text => if held { Place::Return } else { Place::Within },
+        Some(_) => Place::Ended(fit),
+        None if held => Place::Return,
+        None => Place::Within,
     }
 }
 
@@ -52,7 +53,7 @@ impl<S: Source> Scan<S> {
         let next = next_of(self.input.view());
         match next {
             Next::Byte => {}
-            Next::Nothing => self.place = Place::Ended(Fit::Text),
+            Next::Nothing => self.place = Place::Ended(None),
             Next::Unknown => {
                 self.input.consume(2);
                 self.place = Place::Start { held: true };
@@ -62,6 +63,7 @@ impl<S: Source> Scan<S> {
     }
 
     /// Looks on.
+    #[tactic(auto, unfolding(crate::specs::Ready::ready))]
     fn look(&mut self) -> Next
         ensures moved { Moves S.Source.meaning self.old self.new [] }
         ensures found { Found S.Source.meaning result self.new (weight S.Source.meaning self.old) }
@@ -78,6 +80,7 @@ impl<S: Source> Scan<S> {
     }
 
     /// Whether a byte of the body is left. If so, one at least stands ready; else the scan stands behind the body.
+    #[tactic(auto, using(crate::proofs::ReadyBytes::ready_within))]
     pub fn settle(&mut self) -> bool
         ensures moved { Moves S.Source.meaning self.old self.new [] }
         ensures left { MatchBool result (0 < length (raw_left S.Source.meaning self.new)) (raw_left S.Source.meaning self.new ≡ []) }

@@ -1,4 +1,4 @@
-ghost use Rattle.std.specs.Prelude.{◌≡◌, ◌<◌, min, [], ◌++◌, length, drop};
+ghost use Rattle.std.specs.Prelude.{◌≡◌, ◌<◌, min, [], ◌++◌, length, drop, is_ok};
 ghost use Rattle.head.specs.BoundaryBytes.{boundary_bytes};
 ghost use Rattle.input.specs.Inputs.{meaning, shown, unseen, known, passed, Kept, AllShown, Knows};
 ghost use Rattle.levels.specs.Opened.{groups, pushed, popped};
@@ -9,7 +9,7 @@ use super::Scan;
 use crate::places::Place;
 use head::Boundary;
 use input::Input;
-use levels::{Fit, Levels};
+use levels::{Fit, Levels, TooDeep};
 use source::{End, Source};
 
 /// What is done between bodies. Each call that changes the scan leaves it before the line that begins where its input stands.
@@ -57,13 +57,13 @@ impl<S: Source> Scan<S> {
         self.input.end()
     }
 
-    /// What the line is that ended the body; text where the input's end did, and while the body has not ended.
-    pub fn fit(&self) -> Fit
+    /// What the line is that ended the body; none where the input's end did, and while the body has not ended.
+    pub fn fit(&self) -> Option<Fit>
         ensures { result ≡ answer self.now.place }
     {
         match self.place {
             Place::Ended(fit) => fit,
-            _ => Fit::Text,
+            _ => None,
         }
     }
 
@@ -91,8 +91,8 @@ impl<S: Source> Scan<S> {
     }
 
     /// Opens a group inside the others, unless eight are open.
-    pub fn push(&mut self, number: u32, boundary: Boundary) -> bool
-        ensures groups { (result, groups self.new.levels) ≡ pushed (record { number = number; boundary = boundary_bytes boundary }) (groups self.old.levels) }
+    pub fn push(&mut self, number: u32, boundary: Boundary) -> Result<(), TooDeep>
+        ensures groups { (is_ok result, groups self.new.levels) ≡ pushed (record { number = number; boundary = boundary_bytes boundary }) (groups self.old.levels) }
         ensures input { self.new.input ≡ self.old.input }
         ensures begins { AtLine self.new }
     {

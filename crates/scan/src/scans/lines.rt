@@ -38,15 +38,11 @@ impl<S: Source> Scan<S> {
         ensures { NextLine S.Source.meaning self.old self.new result }
     {
         self.skip_body();
-        match self.fit() {
-            Fit::Text => None,
-            fit => {
-                let at = self.offset();
-                self.fill(NEAR);
-                let width = first_line(self.view()).width;
-                self.pass(width);
-                Some(GroupLine { fit, at })
-            }
-        }
+        let fit = self.fit()?;
+        let at = self.offset();
+        self.fill(NEAR);
+        let width = first_line(self.view()).width;
+        self.pass(width);
+        Some(GroupLine { fit, at })
     }
 }

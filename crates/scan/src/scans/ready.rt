@@ -11,12 +11,7 @@ use source::Source;
 fn run_len(text: &[u8]) -> usize
     ensures { result ≡ until_cr text.now }
 {
-    for (i, b) in text.iter().enumerate() {
-        if *b == b'\r' {
-            return i;
-        }
-    }
-    text.len()
+    text.iter().position(|b| *b == b'\r').unwrap_or(text.len())
 }
 
 /// Whether a view begins with a CR that no LF follows. `all` says that nothing comes behind the view.
@@ -37,7 +32,7 @@ fn ready_in(view: &[u8], all: bool, most: usize) -> usize
     if is_lone_cr(view, all) {
         return most.min(1);
     }
-    run_len(&view[0..view.len().min(most)])
+    run_len(&view[..view.len().min(most)])
 }
 
 /// The place behind n of the bytes that stand ready before a line.
@@ -46,14 +41,14 @@ fn past(place: Place, n: usize) -> Place
 {
     match (place, n) {
         (Place::Return, 1) => Place::Feed,
-        (Place::Return, 2) => Place::Within,
-        (Place::Feed, 1) => Place::Within,
+        (Place::Return, 2) | (Place::Feed, 1) => Place::Within,
         _ => place,
     }
 }
 
 impl<S: Source> Scan<S> {
     /// How many bytes of the body stand ready, at most `most`.
+    #[tactic(auto, unfolding(crate::specs::Ready::ready))]
     fn ready(&self, most: usize) -> usize
         ensures { result ≡ min most (ready self.now) }
     {
@@ -81,9 +76,7 @@ impl<S: Source> Scan<S> {
         ensures front { result.now ≡ take (min most (ready self.now)) (raw_left S.Source.meaning self.now) }
         ensures many { length result.now ≡ min most (ready self.now) }
     {
-        let n = self.ready(most);
-        let waiting = self.waiting();
-        &waiting[0..n]
+        &self.waiting()[..self.ready(most)]
     }
 
     /// Passes over the bytes of the body that stand ready, or over the first n of them.

@@ -47,7 +47,7 @@ returns g c =
     let same : input_meaning source b.input ≡ i = ap (input_meaning source) c.pop.ensures.input in
     let marks : c.closing-marks.result.0 ≡ (closing_by c.args.fit c.args.at).0 = ap (λ (q : ℕ × Stage). q.0) c.closing-marks.ensures in
     let stage : c.closing-marks.result.1 ≡ (closing_by c.args.fit c.args.at).1 = ap (λ (q : ℕ × Stage). q.1) c.closing-marks.ensures in
-    let number : c.number_of-number.result ≡ p.top.number = c.number_of-number.ensures ∙ p.told in
+    let number : c.unwrap_or-number.result ≡ p.top.number = c.unwrap_or-number.ensures ∙ p.told in
     let gs : List Group = groups b.levels in
     let by = closes_by p.top gs n i (stop source a) (stop source b) c.args.fit c.args.at c.requires.closing
     (ap (is_of c.args.fit) (sym p.all) ∙ fits)
@@ -58,7 +58,7 @@ returns g c =
           ∙ ap (λ (l : List Group). ahead_by (Line c.args.fit c.args.at) l n i (stop source a)) p.all
           ∙ by
           ∙ close-told p.top gs n i (input_meaning source b.input) (stop source b) c.args.at (closing_by c.args.fit c.args.at).0
-          c.number_of-number.result c.innermost.result c.depth.result c.closing-marks.result.0 (closing_by c.args.fit c.args.at).1 c.closing-marks.result.1
+          c.unwrap_or-number.result c.innermost.result c.depth.result c.closing-marks.result.0 (closing_by c.args.fit c.args.at).1 c.closing-marks.result.1
           number (c.innermost.ensures ∙ ap (λ (l : Levels). innermost (groups l)) c.levels.ensures) (c.depth.ensures ∙ ap (λ (l : Levels). length (groups l)) c.levels-2.ensures)
           marks stage same;
       part = no_part c.closing-marks.result.1 c.args.fit c.args.at n _ stage;

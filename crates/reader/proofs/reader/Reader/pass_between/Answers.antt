@@ -14,9 +14,9 @@ use Rattle.reader.proofs.Keeping.{meaning_by}
 use Rattle.reader.proofs.Betweens.{row_line, row_end, end_met}
 use Rattle.reader.proofs.reader.Reader.pass_between.Goals as goal
 
-pub returns : goal.returns
+pub returns-clause-means : goal.returns-clause-means
 unfolding meaning
-returns g c =
+returns-clause-means g c =
     let source = g.S.Source.meaning in
     let r = c.args.self.now in
     let a = r.scan in
@@ -32,14 +32,11 @@ returns g c =
     ∙ ap (λ (s : Stop). row i.ending gs n passing s.from s.lines) h.here
     ∙ row_line i.ending gs n l.at h.line (lines i'.left) l.fit i' (stop source b) h.is h.fit (sym h.onward.ends) (sym h.next) refl
     ∙ ap (λ (x : Levels). ahead_by (Line l.fit l.at) (groups x) n i' (stop source b)) (sym h.onward.inside) in
-    record {
-      means = meaning_by r.number r.delivered _ _ _ _ (sym was) (sym (ap (λ (st : Stage). part_by st n (decoded_left source r)) c.requires));
-      passed = tt;
-    }
+    meaning_by r.number r.delivered _ _ _ _ (sym was) (sym (ap (λ (st : Stage). part_by st n (decoded_left source r)) c.requires))
 
-pub returns-in_default : goal.returns-in_default
+pub returns-in_default-clause-means : goal.returns-in_default-clause-means
 unfolding meaning
-returns-in_default g c =
+returns-in_default-clause-means g c =
     let source = g.S.Source.meaning in
     let r = c.args.self.now in
     let a = r.scan in
@@ -60,7 +57,4 @@ returns-in_default g c =
     ∙ ap (λ (x : Levels). row i'.ending (groups x) n passing i'.offset []) (sym h.onward.inside)
     ∙ ap (λ (x : ℕ). row i'.ending gs' n passing x []) (sym at)
     ∙ row_end i'.ending gs' n c.offset-at.result c.end_in-end.result c.last_entry.result i' (stop source b) met c.last_entry.ensures in
-    record {
-      means = meaning_by r.number r.delivered _ _ _ _ (sym was) (sym (ap (λ (st : Stage). part_by st n (decoded_left source r)) c.requires));
-      passed = tt;
-    }
+    meaning_by r.number r.delivered _ _ _ _ (sym was) (sym (ap (λ (st : Stage). part_by st n (decoded_left source r)) c.requires))

@@ -1,9 +1,8 @@
-use Rattle.std.proofs.Common.{◌≡◌, true, length, is_some, sym, refl, ap, ◌∙◌, arith}
+use Rattle.std.proofs.Common.{◌≡◌, true, length, is_some, None, sym, refl, ap, ◌∙◌, arith}
 use Rattle.input.specs.Inputs.{shown, known}
-use Rattle.levels.specs.declared.levels.Fit.TheVariants.{Text}
 use Rattle.scan.specs.declared.places.Next.TheVariants.{Byte, Nothing, Unknown}
 use Rattle.scan.specs.Streams.{next_of}
-use Rattle.scan.proofs.Endings.{behind-ended}
+use Rattle.scan.proofs.Endings.{behind_ended}
 use Rattle.scan.proofs.BodyPlaces.{last_shown}
 use Rattle.scan.proofs.BodyMoves.{moves-same, moves-break, moves-last, found-by}
 use Rattle.scan.proofs.ReadyBytes.{ready-some, ready_next}
@@ -28,7 +27,7 @@ returns-in-Nothing g c =
     let end : is_some (known i) ≡ true = ap is_some (c.fill.ensures.shows (omega (arith, ap length (last_shown (shown i) next)))).told in
     record {
       moved = moves-last g.S.Source.meaning s c.requires i c.fill.ensures.keeps.means _ refl refl refl next end;
-      found = found-by g.S.Source.meaning _ _ c.in-Nothing.is (behind-ended g.S.Source.meaning _ Text refl);
+      found = found-by g.S.Source.meaning _ _ c.in-Nothing.is (behind_ended g.S.Source.meaning _ None refl);
     }
 
 pub returns-in-Unknown : goal.returns-in-Unknown

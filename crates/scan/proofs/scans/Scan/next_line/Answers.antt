@@ -1,42 +1,44 @@
-use Rattle.std.proofs.Common.{◌≡◌, ℕ, ◌+◌, min, true, List, ◌∷◌, length, drop, sym, ap, ◌∙◌, subst, arith}
+use Rattle.std.proofs.Common.{◌≡◌, ℕ, ◌+◌, min, true, List, ◌∷◌, Some, None, length, drop, sym, ap, ◌∙◌, subst, arith}
 use Rattle.byte_lines.specs.Bytes.{Bytes}
 use Rattle.byte_lines.specs.Lines.{Line, lines}
 use Rattle.input.specs.Inputs.{Meaning, meaning, shown, unseen, passed}
 use Rattle.message.specs.Groups.{role, fits}
-use Rattle.levels.specs.declared.levels.Fit.TheVariants.{Text}
 use Rattle.levels.specs.declared.levels.Levels.{Levels}
 use Rattle.levels.specs.Opened.{groups}
-use Rattle.levels.specs.Fits.{role_by, InDepth, leading}
-use Rattle.spans.proofs.Windowed.{fits_by_lem}
+use Rattle.levels.specs.Fits.{fit_role, role_by, FitsIn, InDepth, leading}
+use Rattle.levels.proofs.LineTests.{fit_fits}
 use Rattle.scan.specs.declared.places.Place.TheVariants.{Ended}
 use Rattle.scan.specs.Ends.{answer}
+use Rattle.scan.specs.GroupLines.{BehindAll}
 use Rattle.scan.specs.Streams.{owed}
 use Rattle.scan.proofs.Endings.{ended-known}
 use Rattle.scan.proofs.Stops.{passed_offset}
 use Rattle.scan.proofs.LinePasses.{first_is}
 use Rattle.scan.proofs.scans.Scan.next_line.Goals as goal
 
-pub returns-in-Text : goal.returns-in-Text
+pub returns-in_err-fit : goal.returns-in_err-fit
 unfolding lines
-returns-in-Text g c =
+returns-in_err-fit g c =
     let source = g.S.Source.meaning in
     let a = c.args.self.now in
     let b = c.skip_body.new.self in
     let m = c.skip_body.ensures.moved in
     let h = c.skip_body.ensures.behind in
-    let plain : answer b.place ≡ Text = sym c.in-Text.ensures in
-    let at : b.place ≡ Ended Text = h.place ∙ ap Ended plain in
+    let plain : answer b.place ≡ None = sym c.in_err-fit.ensures in
+    let at : b.place ≡ Ended None = h.place ∙ ap Ended plain in
     let none = h.at_end plain in
+    let all : BehindAll source a b =
     record {
       onward = record { ends = m.ends; inside = m.inside; clear = ap owed at };
       here = sym m.stops ∙ h.here ∙ ap (λ (s : Bytes). record { from = (meaning source b.input).offset; lines = lines s }) none;
       none = none;
       told = ended-known b at;
       further = omega (arith, m.later, passed_offset source a, passed_offset source b);
-    }
+    } in
+    rw c.from_residual.ensures all
 
-pub returns-in_default : goal.returns-in_default
-returns-in_default g c =
+pub returns : goal.returns
+returns g c =
     let source = g.S.Source.meaning in
     let a = c.args.self.now in
     let b = c.skip_body.new.self in
@@ -52,10 +54,11 @@ returns-in_default g c =
     let levels : b.levels ≡ a.levels = m.inside in
     let same : meaning source d.input ≡ meaning source b.input = f.keeps.means in
     let left : (meaning source d.input).left ≡ s = ap (λ (x : Meaning). x.left) same in
-    let answered : answer b.place ≡ c.fit.result = sym c.fit.ensures in
-    let depth : InDepth (length (groups b.levels)) c.fit.result = subst (InDepth (length (groups b.levels))) answered h.within in
-    let is : role_by (groups b.levels) c.fit.result ≡ role (groups b.levels) (leading s) = ap (role_by (groups b.levels)) (sym answered) ∙ h.line in
-    let fit : fits (role_by (groups b.levels) c.fit.result) ≡ true = fits_by_lem (groups b.levels) c.fit.result depth c.in_default.not-Text in
+    let t = c.in_ok-fit.fit in
+    let answered : answer b.place ≡ Some t = sym c.in_ok-fit.ensures in
+    let depth : FitsIn (length (groups b.levels)) t = subst (InDepth (length (groups b.levels))) answered h.within in
+    let is : fit_role (groups b.levels) t ≡ role (groups b.levels) (leading s) = ap (role_by (groups b.levels)) (sym answered) ∙ h.line in
+    let fit : fits (fit_role (groups b.levels) t) ≡ true = fit_fits (groups b.levels) t depth in
     let found = first_is b.levels s v (unseen source d.input) c.first_line-width.result.len wide
     (sym left ∙ c.view.ensures.front)
     (λ short. sym left ∙ (f.shows (omega (arith, ap length c.view.ensures.shows))).all ∙ sym c.view.ensures.shows)
@@ -79,8 +82,8 @@ returns-in_default g c =
           ∙ ap (λ (k : ℕ). record { from = k; lines = lines s }) (sym at)
           ∙ ap (λ (x : List Line). record { from = c.offset-at.result; lines = x }) (found.splits ∙ ap (λ (z : Bytes). found.line ∷ lines z) (sym rest));
       next = omega (arith, over, at, found.counts);
-      is = subst (λ (l : Levels). role_by (groups l) c.fit.result ≡ role (groups l) found.line.content) levels (is ∙ ap (role (groups b.levels)) found.leads);
-      fit = subst (λ (l : Levels). fits (role_by (groups l) c.fit.result) ≡ true) levels fit;
-      depth = subst (λ (l : Levels). InDepth (length (groups l)) c.fit.result) levels depth;
+      is = subst (λ (l : Levels). fit_role (groups l) t ≡ role (groups l) found.line.content) levels (is ∙ ap (role (groups b.levels)) found.leads);
+      fit = subst (λ (l : Levels). fits (fit_role (groups l) t) ≡ true) levels fit;
+      depth = subst (λ (l : Levels). FitsIn (length (groups l)) t) levels depth;
       further = omega (arith, m.later, over, found.some, passed_offset source a, passed_offset source e);
     }

@@ -1,21 +1,13 @@
-use Rattle.std.proofs.Common.{◌≡◌, ℕ, suc, ◌+◌, drop, ap, ◌∙◌, arith}
-use Rattle.scan.specs.Ready.{until_cr}
-use Rattle.scan.proofs.ReadyBytes.{until_here, until_next, until_none}
+use Rattle.std.proofs.Common.{eqb, not, rules, tests, arith}
+use Rattle.std.proofs.lemmas.Grind.{common_steps}
+use Rattle.std.proofs.lemmas.Iterator.{YieldsList-from_slice}
+use Rattle.std.proofs.lemmas.Iterator.Search.{position_from_yields_List}
+use Rattle.std.proofs.lemmas.List.Sums.{prefix_len-le-length}
 use Rattle.scan.proofs.scans.ready.run_len.Goals as goal
 
-pub loop-i-init : goal.loop-i-init
-loop-i-init c = omega arith
-
-pub returns-then-b-eq13 : goal.returns-then-b-eq13
-returns-then-b-eq13 c = omega (arith, c.loop-i.invariant, until_here c.args.text.now c.loop-i.i c.loop-i-test.true c.if-b-eq13.true)
-
-pub loop-i-preserved : goal.loop-i-preserved
-loop-i-preserved c =
-    let s = c.args.text.now in
-    let i = c.loop-i.i in
-    let next : until_cr (drop i s) ≡ suc (until_cr (drop (i + 1) s)) =
-    until_next s i c.loop-i-test.true c.if-b-eq13.false ∙ ap (λ (k : ℕ). suc (until_cr (drop k s))) {x = suc i} (omega arith) in
-    omega (arith, c.loop-i.invariant, next)
-
 pub returns : goal.returns
-returns c = omega (arith, c.loop-i.invariant, until_none c.args.text.now c.loop-i.i (omega arith))
+returns c =
+    let s = c.args.text.now in
+    let found = position_from_yields_List (λ b. eqb b 13) _ _ _ c.position.ensures.ran (YieldsList-from_slice s cc) (λ x b q k. search (rules, tests)) in
+    let fits = prefix_len-le-length (λ b. not (eqb b 13)) s in
+    rw (c.unwrap_or.ensures, found) (grind (arith, common_steps))
