@@ -12,6 +12,7 @@ pub use lines::{LineSpan, first_line};
 pub fn hex_value(b: u8) -> Option<u8>
     ensures { result ≡ hex b }
 {
+    // Ranges as cases, the project's form for classes of bytes, and not `to_digit`, which asks for a char.
     match b {
         b'0'..=b'9' => Some(b - b'0'),
         b'A'..=b'F' => Some(b - b'A' + 10),

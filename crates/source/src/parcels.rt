@@ -1,4 +1,4 @@
-ghost use Rattle.std.specs.Prelude.{◌≡◌, ◌<◌, ◌≤◌, [], ◌∷◌, length};
+ghost use Rattle.std.specs.Prelude.{◌≡◌, ◌<◌, length};
 ghost use Rattle.std.specs.List.{flat_map};
 ghost use Rattle.source.specs.declared.ends.End.TheVariants.{Clean};
 ghost use Rattle.byte_lines.specs.Bytes.{Bytes};
@@ -33,20 +33,27 @@ impl<'a> Parcels<'a> {
             lengths,
         }
     }
-}
 
-/// The parcel at hand, with `left` bytes left of it, or the next one that has any: its bytes left, and the lengths behind it.
-/// Behind the last length, all that is left is a parcel.
-fn parcel_at_hand(left: usize, lengths: &[u32]) -> (usize, &[u32])
-    ensures some { 0 < result.0 }
-    ensures same { (s : Bytes) → length s ≤ 18446744073709551615 → cut (result.0 ∷ result.1.now) s ≡ cut (left ∷ lengths.now) s }
-{
-    if left > 0 {
-        return (left, lengths);
-    }
-    match lengths.iter().position(|n| *n > 0) {
-        Some(i) => (lengths[i] as usize, &lengths[i + 1..]),
-        None => (usize::MAX, &[]),
+    /// Goes on to the next parcel that has any bytes, where none is left of the one at hand. Behind the last length, all that is
+    /// left is a parcel.
+    fn go_on(&mut self)
+        ensures some { 0 < self.new.left }
+        ensures block { self.new.block ≡ self.old.block }
+        ensures same { parcels_left self.new ≡ parcels_left self.old }
+    {
+        if self.left > 0 {
+            return;
+        }
+        match self.lengths.iter().position(|n| *n > 0) {
+            Some(i) => {
+                self.left = self.lengths[i] as usize;
+                self.lengths = &self.lengths[i + 1..];
+            }
+            None => {
+                self.left = usize::MAX;
+                self.lengths = &[];
+            }
+        }
     }
 }
 
@@ -57,11 +64,10 @@ impl Source for Parcels<'_> {
         ensures pulls { Pulls (parcels_meaning self.old) buffer.old (answer result) (parcels_meaning self.new) buffer.new }
         ensures keeps { (answer result, parcels_left self.new) ≡ portion (length buffer.old) (parcels_left self.old) }
     {
-        let (left, lengths) = parcel_at_hand(self.left, self.lengths);
-        let room = left.min(buffer.len());
+        self.go_on();
+        let room = self.left.min(buffer.len());
         let n = self.block.pull(&mut buffer[0..room])?;
-        self.left = left - n;
-        self.lengths = lengths;
+        self.left -= n;
         Ok(n)
     }
 }
