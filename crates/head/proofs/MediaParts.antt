@@ -1,42 +1,18 @@
 -- What the parts of a Content-Type make of it.
-use Rattle.std.proofs.Common.{◌≡◌, ℕ, suc, ◌+◌, ◌-◌, ◌<◌, Bool, true, false, ◌&&◌, List, [], ◌∷◌, length, get_or, take, drop, Some, None, codes, Option, sym, refl, ap, ◌∙◌, arith, Bor}
+use Rattle.std.proofs.Common.{◌≡◌, ℕ, suc, true, false, List, [], ◌∷◌, length, Some, None, codes, Option, sym, refl, ap, ◌∙◌, Bor}
 use Rattle.std.specs.Option.{option_flatten}
-use Rattle.std.proofs.lemmas.List.{take_rest}
-use Rattle.std.proofs.lemmas.Bool.{eq-eqb, and_right, and_from, false≢true}
+use Rattle.std.proofs.lemmas.Bool.{and_from, false≢true}
 use Rattle.byte_lines.specs.Bytes.{Bytes}
 use Rattle.byte_lines.specs.Strings.{has, before, after, trim, named}
 use Rattle.head.specs.declared.boundary.Boundary.{Boundary}
 use Rattle.head.specs.BoundaryBytes.{boundary_of}
 use Rattle.head.specs.Entities.{boundaries, boundary}
-use Rattle.head.specs.Media.{token, quoted_content, content, Parameter, parameter_of, parameter, Quote, outside, onto_piece, quote_after, pieces, join_parameter, parameters, media_of, is_type, typed}
-use Rattle.head.specs.Summaries.{Summary, broken, typed_summary, summary}
-use Rattle.head.specs.MediaReads.{At, ends_piece, later_pieces, Shorter, multipart_type, ends_parameters, boundary_in, found_of, noted}
+use Rattle.head.specs.Media.{token, content, Parameter, parameter_of, parameter, Quote, outside, onto_piece, quote_after, pieces, join_parameter, parameters}
+use Rattle.head.specs.MediaReads.{ends_piece, later_pieces, ends_parameters, found_of, noted}
 use Rattle.head.proofs.TextScans.{by_test}
-
--- the slices before and behind the first b
-pub front_slice : {b : ℕ} {s : Bytes} {i : ℕ} → At b s i → take (i - 0) s ≡ before b s
-front_slice {b} {s} {i} a = let z : i - 0 ≡ i = omega arith in ap (λ (m : ℕ). take m s) z ∙ sym a.front
-
-pub back_slice : {b : ℕ} {s : Bytes} {i : ℕ} → At b s i → take (length s - (i + 1)) (drop (i + 1) s) ≡ after b s
-back_slice {b} {s} {i} a = take_rest s (i + 1) ∙ sym a.back
-
-pub content-quoted : (s : Bytes) → 0 < length s → get_or s 0 0 ≡ 34 → content s ≡ quoted_content (drop 1 s)
-content-quoted [] h e = absurd (omega arith)
-content-quoted (b ∷ bs) h e = rw (content, eq-eqb b 34 e)
 
 pub parameter_is : (s : Bytes) → has 61 s ≡ true → token (before 61 s) ≡ true → parameter s ≡ parameter_of (before 61 s) (content (after 61 s))
 parameter_is s h t = rw (parameter, and_from (has 61 s) (token (before 61 s)) h t)
-
-pub parameter_not : (s : Bytes) → token (before 61 s) ≡ false → parameter s ≡ None
-parameter_not s f = rw (parameter, and_right (has 61 s) (token (before 61 s)) f)
-
-pub type_is : (s : Bytes) → has 47 s ≡ true → token (before 47 s) ≡ true → token (after 47 s) ≡ true → multipart_type s ≡ Some (named (codes "multipart") (before 47 s))
-type_is s h t u =
-    let e : is_type s ≡ true = and_from (has 47 s) (token (before 47 s) && token (after 47 s)) h (and_from (token (before 47 s)) (token (after 47 s)) t u) in
-    rw (multipart_type, e)
-
-pub type_not : (s : Bytes) → (token (before 47 s) && token (after 47 s)) ≡ false → multipart_type s ≡ None
-type_not s f = let e : is_type s ≡ false = and_right (has 47 s) (token (before 47 s) && token (after 47 s)) f in rw (multipart_type, e)
 
 -- a value has at least one piece
 some_piece : (q : Quote) (s : Bytes) → (p : Bytes) × ((ps : List Bytes) × (pieces q s ≡ p ∷ ps))
@@ -76,10 +52,6 @@ abbrev pub verdict : Option (Option Bytes) → Option (List Parameter) → Optio
 verdict o None = None
 verdict o (Some ps) = Some (joins o (boundaries ps))
 
-pub verdict_start : (ps : Option (List Parameter)) → verdict None ps ≡ boundary_in ps
-verdict_start None = refl
-verdict_start (Some ps) = refl
-
 pub verdict_end : (f : Option (Option Boundary)) → verdict (found_of f) (Some []) ≡ Some (boundary_of (option_flatten f))
 unfolding boundaries
 verdict_end None = refl
@@ -104,30 +76,6 @@ verdict-boundary o p (Some ps) t =
     let e : boundaries (p ∷ ps) ≡ p.value ∷ boundaries ps = rw (boundaries, t) in
     ap (λ (l : List Bytes). Some (joins o l)) e ∙ ap (λ (b : Option Bytes). Some b) (joins-more o p.value (boundaries ps))
 
--- the whole, from its type and its parameters' boundary
-abbrev pub summarized : (is_multipart : Bool) → Option (Option Bytes) → Summary
-summarized m None = broken
-summarized m (Some b) = typed_summary m b
-
-summary_of : (t : Bytes) (ps : Option (List Parameter)) → summary (media_of t ps) ≡ summarized (named (codes "multipart") t) (boundary_in ps)
-summary_of t None = refl
-summary_of t (Some ps) = refl
-
-pub summary-broken : (s : Bytes) (ss : List Bytes) → None ≡ multipart_type (trim s) → summary (typed (s ∷ ss)) ≡ broken
-summary-broken s ss e =
-    by_test (is_type (trim s)) (λ t. let g : multipart_type (trim s) ≡ Some (named (codes "multipart") (before 47 (trim s))) = rw (multipart_type, t) in let z : ◌≡◌ {A = ℕ} 0 1 = cc in absurd (omega arith))
-    (λ f. let g : typed (s ∷ ss) ≡ None = rw (typed, f) in ap summary g)
-
-pub summary-typed : (s : Bytes) (ss : List Bytes) (m : Bool) → Some m ≡ multipart_type (trim s) → summary (typed (s ∷ ss)) ≡ summarized m (boundary_in (parameters ss))
-summary-typed s ss m e =
-    by_test (is_type (trim s))
-    (λ t. let k = named (codes "multipart") (before 47 (trim s)) in
-    let g : multipart_type (trim s) ≡ Some k = rw (multipart_type, t) in
-    let q : k ≡ m = cc in
-    let h : typed (s ∷ ss) ≡ media_of (before 47 (trim s)) (parameters ss) = rw (typed, t) in
-    ap summary h ∙ summary_of (before 47 (trim s)) (parameters ss) ∙ ap (λ (b : Bool). summarized b (boundary_in (parameters ss))) q)
-    (λ f. let g : multipart_type (trim s) ≡ None = rw (multipart_type, f) in let z : ◌≡◌ {A = ℕ} 0 1 = cc in absurd (omega arith))
-
 -- how much is left to read, for a loop's measure
 abbrev pub left_of : Option (Bor Bytes) → ℕ
 left_of None = 0
@@ -145,8 +93,3 @@ module _ (rest later : Option (Bor Bytes)) (text : Bor Bytes) (piece trimmed : B
   left-more f p e =
       left_is ∙ parameters-more piece later (ap (λ (s : Bytes). ends_parameters s later) (sym clean) ∙ sym f)
       ∙ ap (λ (q : Option Parameter). join_parameter q (parameters (later_pieces later))) (ap parameter (sym clean) ∙ sym e)
-
--- less is left behind a piece
-pub left_less : (rest later : Option (Bor Bytes)) (text : Bor Bytes) → rest ≡ Some text → Shorter later text.now → left_of later < left_of rest
-left_less rest None text e h = omega (arith, ap left_of e)
-left_less rest (Some r) text e h = omega (arith, ap left_of e)

@@ -6,12 +6,6 @@ ghost use Rattle.head.specs.Judging.{fault_number, verdict_of, name_byte, Judges
 
 use byte_lines::{LineSpan, first_line};
 
-const NUL: u8 = 0;
-
-const CR: u8 = b'\r';
-
-const LF: u8 = b'\n';
-
 /// How many bytes a field's name may have.
 const LONGEST_NAME: usize = 64;
 
@@ -67,7 +61,7 @@ fn is_name_byte(b: u8) -> bool
 fn is_field(line: &[u8]) -> bool
     ensures { result ≡ is_field line.now }
 {
-    match line.iter().position(|&b| !is_name_byte(b)) {
+    match line.iter().position(|b| !is_name_byte(*b)) {
         Some(len) => line[len] == b':' && 0 < len && len <= LONGEST_NAME,
         None => false,
     }
@@ -77,7 +71,7 @@ fn is_field(line: &[u8]) -> bool
 fn is_unclean(line: &[u8]) -> bool
     ensures { result ≡ unclean line.now }
 {
-    line.iter().any(|&b| b == NUL || b == CR || b == LF)
+    line.iter().any(|b| matches!(b, b'\0' | b'\r' | b'\n'))
 }
 
 /// Whether the line continues the field before it.

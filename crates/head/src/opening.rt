@@ -15,10 +15,10 @@ use coding::Coding;
 /// How many groups may be open.
 const MOST_GROUPS: u32 = 8;
 
-/// The marks of a leaf, which are summed: its Content-Type is broken.
+/// A leaf's mark of a broken Content-Type. A leaf has the sum of its marks.
 const BROKEN_TYPE: u32 = 1;
 
-/// Its coding is not known.
+/// A leaf's mark of a coding that is not known.
 const UNKNOWN_CODING: u32 = 2;
 
 /// What a head's fields make of its entity.
