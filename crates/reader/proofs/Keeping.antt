@@ -8,7 +8,7 @@ use Rattle.scan.specs.Streams.{owed, passed_over}
 use Rattle.source.specs.declared.sources.Source.{Ghosts}
 
 module _ {S : Type 0} {G : Ghosts S} (a b : Scan S G) where
-  pub passed-same : b.input ≡ a.input → passed_over b ≡ passed_over a
+  pub passed-same : b.lines.input ≡ a.lines.input → passed_over b ≡ passed_over a
   unfolding passed_over
   passed-same e = ap (λ (i : Input S G). i.at) e
 

@@ -94,19 +94,19 @@ behind_head e hs gs n at_end from rest = last_entry (end_in (hs ++ gs) from e) n
 module _ {S : Type 0} {G : Ghosts S} (source : S → SourceMeaning) where
   -- a leaf's part is open, whose body begins behind the first `width` bytes of the input
   pub record LeafOpens (before after : Reader S G) (width : ℕ) (c : Coding) : Type 0 where
-    pub ahead : (i : InputMeaning) → i ≡ input_meaning source before.scan.input
-        → (meaning source after).ahead ≡ row i.ending (groups before.scan.levels) (before.entities + 1) passing (i.offset + width) (lines (drop width i.left))
-    pub part : (i : InputMeaning) → i ≡ input_meaning source before.scan.input → (d : Decoded)
-        → d ≡ body_at c (groups before.scan.levels) (i.offset + width) (lines (drop width i.left)) i.ending
+    pub ahead : (i : InputMeaning) → i ≡ input_meaning source before.scan.lines.input
+        → (meaning source after).ahead ≡ row i.ending (groups before.scan.lines.levels) (before.entities + 1) passing (i.offset + width) (lines (drop width i.left))
+    pub part : (i : InputMeaning) → i ≡ input_meaning source before.scan.lines.input → (d : Decoded)
+        → d ≡ body_at c (groups before.scan.lines.levels) (i.offset + width) (lines (drop width i.left)) i.ending
         → (meaning source after).part ≡ Some (record { number = before.entities + 1; left = d.bytes; ending = d.ending })
     pub number : after.number ≡ before.number
     pub delivered : after.delivered ≡ before.delivered
 
   -- a group is open behind the first `width` bytes of the input, which are its head
   pub record GroupOpens (before after : Reader S G) (width : ℕ) (end : HeadEnd) (boundary : Bytes) : Type 0 where
-    pub ahead : (i : InputMeaning) → i ≡ input_meaning source before.scan.input
+    pub ahead : (i : InputMeaning) → i ≡ input_meaning source before.scan.lines.input
         → (meaning source after).ahead
-        ≡ behind_head i.ending (record { number = before.entities + 1; boundary = boundary } ∷ []) (groups before.scan.levels) (before.entities + 1) (stop_by end)
+        ≡ behind_head i.ending (record { number = before.entities + 1; boundary = boundary } ∷ []) (groups before.scan.lines.levels) (before.entities + 1) (stop_by end)
         (i.offset + width) (lines (drop width i.left))
     pub part : (meaning source after).part ≡ None
     pub number : after.number ≡ before.number

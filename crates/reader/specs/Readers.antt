@@ -48,7 +48,7 @@ part_by (Over last) n d = None
 module _ {S : Type 0} {G : Ghosts S} (source : S → SourceMeaning) where
   -- the end that the body at hand meets
   unfoldable pub body_ending : Scan S G → End
-  body_ending s = end_at (groups s.levels) (stop source s) (input_meaning source s.input).ending
+  body_ending s = end_at (groups s.lines.levels) (stop source s) (input_meaning source s.lines.input).ending
 
   -- what is left of the decoded body
   unfoldable pub decoded_left : Reader S G → Decoded
@@ -59,7 +59,7 @@ module _ {S : Type 0} {G : Ghosts S} (source : S → SourceMeaning) where
   meaning r =
       record {
         number = r.number;
-        ahead = ahead_by r.stage (groups r.scan.levels) r.entities (input_meaning source r.scan.input) (stop source r.scan);
+        ahead = ahead_by r.stage (groups r.scan.lines.levels) r.entities (input_meaning source r.scan.lines.input) (stop source r.scan);
         part = part_by r.stage r.entities (decoded_left r);
         delivered = r.delivered;
       }

@@ -36,4 +36,4 @@ fits_by (Line fit at) gs = is_of fit gs
 fits_by (Over last) gs = true
 
 abbrev pub line_fits : {S : Type 0} {G : Ghosts S} → Stage → Scan S G → Bool
-line_fits st s = fits_by st (groups s.levels)
+line_fits st s = fits_by st (groups s.lines.levels)

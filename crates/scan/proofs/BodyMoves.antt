@@ -57,17 +57,17 @@ module _ {S : Type 0} {G : Ghosts S} (source : S → SourceMeaning) where
       }
 
   -- what places, groups and the input's meaning make of a move
-  pub moves-by : (a b : Scan S G) (x : Bytes) → b.levels ≡ a.levels
-      → x ++ body_at (groups a.levels) b.place (meaning source b.input).left ≡ raw_left source a
-      → stop_at (groups a.levels) b.place (meaning source b.input).offset (meaning source b.input).left ≡ stop source a
-      → (meaning source b.input).ending ≡ (meaning source a.input).ending
-      → (meaning source a.input).offset ≤ (meaning source b.input).offset
-      → (meaning source a.input).offset + owed b.place + length x ≤ (meaning source b.input).offset + owed a.place → Moves source a b x
+  pub moves-by : (a b : Scan S G) (x : Bytes) → b.lines.levels ≡ a.lines.levels
+      → x ++ body_at (groups a.lines.levels) b.place (meaning source b.lines.input).left ≡ raw_left source a
+      → stop_at (groups a.lines.levels) b.place (meaning source b.lines.input).offset (meaning source b.lines.input).left ≡ stop source a
+      → (meaning source b.lines.input).ending ≡ (meaning source a.lines.input).ending
+      → (meaning source a.lines.input).offset ≤ (meaning source b.lines.input).offset
+      → (meaning source a.lines.input).offset + owed b.place + length x ≤ (meaning source b.lines.input).offset + owed a.place → Moves source a b x
   unfolding raw_left stop
   moves-by a b x levels gives stops ends later further =
       record {
-        gives = ap (λ (l : Levels). x ++ body_at (groups l) b.place (meaning source b.input).left) levels ∙ gives;
-        stops = ap (λ (l : Levels). stop_at (groups l) b.place (meaning source b.input).offset (meaning source b.input).left) levels ∙ stops;
+        gives = ap (λ (l : Levels). x ++ body_at (groups l) b.place (meaning source b.lines.input).left) levels ∙ gives;
+        stops = ap (λ (l : Levels). stop_at (groups l) b.place (meaning source b.lines.input).offset (meaning source b.lines.input).left) levels ∙ stops;
         ends = ends;
         inside = levels;
         later = later;
@@ -75,26 +75,26 @@ module _ {S : Type 0} {G : Ghosts S} (source : S → SourceMeaning) where
       }
 
   -- the input means what it did
-  pub moves-same : (a b : Scan S G) → b.levels ≡ a.levels → b.place ≡ a.place → meaning source b.input ≡ meaning source a.input → Moves source a b []
+  pub moves-same : (a b : Scan S G) → b.lines.levels ≡ a.lines.levels → b.place ≡ a.place → meaning source b.lines.input ≡ meaning source a.lines.input → Moves source a b []
   unfolding raw_left stop
   moves-same a b levels place means =
-      let gs = groups a.levels in
+      let gs = groups a.lines.levels in
       moves-by a b [] levels
-      (ap (λ (p : Place). body_at gs p (meaning source b.input).left) place ∙ ap (λ (m : Meaning). body_at gs a.place m.left) means)
-      (ap (λ (p : Place). stop_at gs p (meaning source b.input).offset (meaning source b.input).left) place ∙ ap (λ (m : Meaning). stop_at gs a.place m.offset m.left) means)
+      (ap (λ (p : Place). body_at gs p (meaning source b.lines.input).left) place ∙ ap (λ (m : Meaning). body_at gs a.place m.left) means)
+      (ap (λ (p : Place). stop_at gs p (meaning source b.lines.input).offset (meaning source b.lines.input).left) place ∙ ap (λ (m : Meaning). stop_at gs a.place m.offset m.left) means)
       (ap (λ (m : Meaning). m.ending) means) (omega (arith, ap (λ (m : Meaning). m.offset) means)) (omega (arith, ap owed place, ap (λ (m : Meaning). m.offset) means))
 
   -- n of the bytes that stand ready are passed over, or all of them: k
-  module _ (a b : Scan S G) (n k : ℕ) (many : k ≡ min n (ready a)) (levels : b.levels ≡ a.levels) where
-    pub moves-run : a.place ≡ Within → b.place ≡ a.place → meaning source b.input ≡ passed (min k (length (shown a.input))) (meaning source a.input)
+  module _ (a b : Scan S G) (n k : ℕ) (many : k ≡ min n (ready a)) (levels : b.lines.levels ≡ a.lines.levels) where
+    pub moves-run : a.place ≡ Within → b.place ≡ a.place → meaning source b.lines.input ≡ passed (min k (length (shown a.lines.input))) (meaning source a.lines.input)
         → Moves source a b (take (min n (ready a)) (raw_left source a))
     unfolding raw_left stop
     moves-run here place means =
-        let gs = groups a.levels in
-        let m = meaning source a.input in
-        let m' = meaning source b.input in
-        let v = shown a.input in
-        let all = is_some (known a.input) in
+        let gs = groups a.lines.levels in
+        let m = meaning source a.lines.input in
+        let m' = meaning source b.lines.input in
+        let v = shown a.lines.input in
+        let all = is_some (known a.lines.input) in
         let h : k ≤ ready_in v all = omega (arith, ready_at_lem source a Within here) in
         let shows : min k (length v) ≡ k = omega (arith, ready-fits v all) in
         let by : m' ≡ passed k m = means ∙ ap (λ (j : ℕ). passed j m) shows in
@@ -103,28 +103,28 @@ module _ {S : Type 0} {G : Ghosts S} (source : S → SourceMeaning) where
         (ap (λ (j : ℕ). take j (raw_left source a) ++ body_at gs b.place m'.left) (sym many)
         ∙ ap (λ (p : Place). take k (raw_left source a) ++ body_at gs p m'.left) (place ∙ here)
         ∙ ap (λ (z : Bytes). take k z ++ in_line gs (lines m'.left)) left
-        ∙ run-gives gs m v (unseen source a.input) all (shown-first source a.input) (unseen-known source a.input) k h m' by
+        ∙ run-gives gs m v (unseen source a.lines.input) all (shown-first source a.lines.input) (unseen-known source a.lines.input) k h m' by
         ∙ sym left)
         (ap (λ (p : Place). stop_at gs p m'.offset m'.left) (place ∙ here)
-        ∙ run-stops gs m v (unseen source a.input) all (shown-first source a.input) (unseen-known source a.input) k h m' by
+        ∙ run-stops gs m v (unseen source a.lines.input) all (shown-first source a.lines.input) (unseen-known source a.lines.input) k h m' by
         ∙ ap (λ (p : Place). stop_at gs p m.offset m.left) (sym here))
         (ap (λ (x : Meaning). x.ending) by) (omega (arith, ap (λ (x : Meaning). x.offset) by))
         (omega (arith, ap owed place, ap (λ (x : Meaning). x.offset) by, length-take (min n (ready a)) (raw_left source a)))
 
-    pub moves-past : (a.place ≡ Within → ⊥) → b.input ≡ a.input → b.place ≡ place_past a.place k → Moves source a b (take (min n (ready a)) (raw_left source a))
+    pub moves-past : (a.place ≡ Within → ⊥) → b.lines.input ≡ a.lines.input → b.place ≡ place_past a.place k → Moves source a b (take (min n (ready a)) (raw_left source a))
     unfolding raw_left stop ready
     moves-past outside input place =
-        let gs = groups a.levels in
-        let m = meaning source a.input in
-        let v = shown a.input in
-        let all = is_some (known a.input) in
+        let gs = groups a.lines.levels in
+        let m = meaning source a.lines.input in
+        let v = shown a.lines.input in
+        let all = is_some (known a.lines.input) in
         let h : k ≤ ready_at a.place v all = omega arith in
         moves-by a b _ levels
-        (ap (λ (j : ℕ). take j (raw_left source a) ++ body_at gs b.place (meaning source b.input).left) (sym many)
-        ∙ ap (λ (p : Place). take k (raw_left source a) ++ body_at gs p (meaning source b.input).left) place
+        (ap (λ (j : ℕ). take j (raw_left source a) ++ body_at gs b.place (meaning source b.lines.input).left) (sym many)
+        ∙ ap (λ (p : Place). take k (raw_left source a) ++ body_at gs p (meaning source b.lines.input).left) place
         ∙ ap (λ (i : Input S G). take k (raw_left source a) ++ body_at gs (place_past a.place k) (meaning source i).left) input
         ∙ past-gives gs m.left a.place v all k h outside)
-        (ap (λ (p : Place). stop_at gs p (meaning source b.input).offset (meaning source b.input).left) place
+        (ap (λ (p : Place). stop_at gs p (meaning source b.lines.input).offset (meaning source b.lines.input).left) place
         ∙ ap (λ (i : Input S G). stop_at gs (place_past a.place k) (meaning source i).offset (meaning source i).left) input
         ∙ past-stops gs m.left a.place v all m.offset k h outside)
         (ap (λ (i : Input S G). (meaning source i).ending) input) (omega (arith, ap (λ (i : Input S G). (meaning source i).offset) input))
@@ -137,34 +137,34 @@ module _ {S : Type 0} {G : Ghosts S} (source : S → SourceMeaning) where
         ))
 
   -- A line was tested with the answer f, and nothing was passed over.
-  module _ (a b : Scan S G) (held : Bool) (f : Option Fit) (at : a.place ≡ Start held) (to : b.place ≡ place_by f held) (levels : b.levels ≡ a.levels)
-      (means : meaning source b.input ≡ meaning source a.input) where
-    pub moves-begun : role_by (groups a.levels) f ≡ role (groups a.levels) (leading (meaning source b.input).left) → InDepth (length (groups a.levels)) f → Moves source a b []
+  module _ (a b : Scan S G) (held : Bool) (f : Option Fit) (at : a.place ≡ Start held) (to : b.place ≡ place_by f held) (levels : b.lines.levels ≡ a.lines.levels)
+      (means : meaning source b.lines.input ≡ meaning source a.lines.input) where
+    pub moves-begun : role_by (groups a.lines.levels) f ≡ role (groups a.lines.levels) (leading (meaning source b.lines.input).left) → InDepth (length (groups a.lines.levels)) f → Moves source a b []
     unfolding raw_left stop
     moves-begun is within =
         moves-by a b [] levels
-        (begun-left (groups a.levels) held a.place b.place f at to (meaning source a.input) (meaning source b.input) means is within)
-        (begun-stop (groups a.levels) held a.place b.place f at to (meaning source a.input) (meaning source b.input) means is within)
+        (begun-left (groups a.lines.levels) held a.place b.place f at to (meaning source a.lines.input) (meaning source b.lines.input) means is within)
+        (begun-stop (groups a.lines.levels) held a.place b.place f at to (meaning source a.lines.input) (meaning source b.lines.input) means is within)
         (ap (λ (m : Meaning). m.ending) means) (omega (arith, ap (λ (m : Meaning). m.offset) means)) (omega (arith, ap owed at, ap owed to, owed_begun f held, ap (λ (m : Meaning). m.offset) means))
 
     pub begun-nearer : weight source b < weight source a
     unfolding weight
-    begun-nearer = begun-weight (groups a.levels) held a.place b.place f at to (meaning source a.input) (meaning source b.input) means
+    begun-nearer = begun-weight (groups a.lines.levels) held a.place b.place f at to (meaning source a.lines.input) (meaning source b.lines.input) means
 
   -- Within a line, after a fill that left i for the input.
-  module _ (a : Scan S G) (here : a.place ≡ Within) (i : Input S G) (kept : meaning source i ≡ meaning source a.input) where
-    front : (meaning source a.input).left ≡ shown i ++ unseen source i
+  module _ (a : Scan S G) (here : a.place ≡ Within) (i : Input S G) (kept : meaning source i ≡ meaning source a.lines.input) where
+    front : (meaning source a.lines.input).left ≡ shown i ++ unseen source i
     front = ap (λ (m : Meaning). m.left) (sym kept) ∙ shown-first source i
 
-    module _ (b : Scan S G) (levels : b.levels ≡ a.levels) where
+    module _ (b : Scan S G) (levels : b.lines.levels ≡ a.lines.levels) where
       -- past the line's CRLF
-      pub moves-break : b.place ≡ Start true → meaning source b.input ≡ passed (min 2 (length (shown i))) (meaning source i) → next_of (shown i) ≡ Unknown
+      pub moves-break : b.place ≡ Start true → meaning source b.lines.input ≡ passed (min 2 (length (shown i))) (meaning source i) → next_of (shown i) ≡ Unknown
           → Moves source a b [] × (weight source b < weight source a)
       unfolding raw_left stop weight
       moves-break place means next =
-          let gs = groups a.levels in
-          let m = meaning source a.input in
-          let m' = meaning source b.input in
+          let gs = groups a.lines.levels in
+          let m = meaning source a.lines.input in
+          let m' = meaning source b.lines.input in
           let shows : min 2 (length (shown i)) ≡ 2 = omega (arith, break_shown (shown i) next) in
           let by : m' ≡ passed 2 m = means ∙ ap (λ (k : ℕ). passed k (meaning source i)) shows ∙ ap (passed 2) kept in (
             moves-by a b [] levels
@@ -175,16 +175,16 @@ module _ {S : Type 0} {G : Ghosts S} (source : S → SourceMeaning) where
           )
 
       -- at the input's end
-      pub moves-last : b.place ≡ Ended None → b.input ≡ i → next_of (shown i) ≡ Nothing → is_some (known i) ≡ true → Moves source a b []
+      pub moves-last : b.place ≡ Ended None → b.lines.input ≡ i → next_of (shown i) ≡ Nothing → is_some (known i) ≡ true → Moves source a b []
       unfolding raw_left stop
       moves-last place input next end =
-          let gs = groups a.levels in
-          let m = meaning source a.input in
-          let same : meaning source b.input ≡ m = ap (meaning source) input ∙ kept in
+          let gs = groups a.lines.levels in
+          let m = meaning source a.lines.input in
+          let same : meaning source b.lines.input ≡ m = ap (meaning source) input ∙ kept in
           let none : m.left ≡ [] = front ∙ ap (λ (z : Bytes). z ++ unseen source i) (last_shown (shown i) next) ∙ unseen-known source i end in
           moves-by a b [] levels
-          (ap (λ (p : Place). body_at gs p (meaning source b.input).left) place ∙ last-left gs a.place here m (shown i) (unseen source i) front none)
-          (ap (λ (p : Place). stop_at gs p (meaning source b.input).offset (meaning source b.input).left) place
+          (ap (λ (p : Place). body_at gs p (meaning source b.lines.input).left) place ∙ last-left gs a.place here m (shown i) (unseen source i) front none)
+          (ap (λ (p : Place). stop_at gs p (meaning source b.lines.input).offset (meaning source b.lines.input).left) place
           ∙ ap (λ (x : Meaning). record { from = x.offset; lines = lines x.left }) same
           ∙ last-stop gs a.place here m (shown i) (unseen source i) front none)
           (ap (λ (x : Meaning). x.ending) same) (omega (arith, ap (λ (x : Meaning). x.offset) same)) (omega (arith, ap owed place, ap (λ (x : Meaning). x.offset) same))

@@ -140,24 +140,24 @@ module _ (ls : Levels) (v q : Bytes) (e : Option End) (all : is_some e ≡ true 
 pub behind_ended : {S : Type 0} {G : Ghosts S} (source : S → Meaning) (s : Scan S G) (f : Option Fit) → s.place ≡ Ended f → Behind source s
 unfolding raw_left stop
 behind_ended source s f at =
-    let gs = groups s.levels in
-    let i = s.input in
+    let gs = groups s.lines.levels in
+    let i = s.lines.input in
     let m = meaning source i in
     let front = shown-first source i in
     let all = unseen-known source i in
-    let t : ends_by gs f (shown i) (known i) ≡ true = sym (ap (λ (p : Place). tested s.levels p (shown i) (known i)) at) ∙ s.ended in
-    let a = ended-answers s.levels (shown i) (unseen source i) (known i) all f t in
+    let t : ends_by gs f (shown i) (known i) ≡ true = sym (ap (λ (p : Place). tested s.lines.levels p (shown i) (known i)) at) ∙ s.ended in
+    let a = ended-answers s.lines.levels (shown i) (unseen source i) (known i) all f t in
     let is : answer s.place ≡ f = ap answer at in
     record {
       none = ap (λ (p : Place). body_at gs p m.left) at;
       here = ap (λ (p : Place). stop_at gs p m.offset m.left) at;
       line = ap (role_by gs) is ∙ a.0 ∙ ap (λ (z : Bytes). role gs (leading z)) (sym front);
       within = subst (InDepth (length gs)) (sym is) a.1;
-      at_end = λ e. front ∙ ended-last s.levels (shown i) (unseen source i) (known i) all f t (sym is ∙ e);
+      at_end = λ e. front ∙ ended-last s.lines.levels (shown i) (unseen source i) (known i) all f t (sym is ∙ e);
       place = at ∙ ap Ended (sym is);
     }
 
 -- at the input's end, the end is known
-pub ended-known : {S : Type 0} {G : Ghosts S} (s : Scan S G) → s.place ≡ Ended None → is_some (known s.input) ≡ true
+pub ended-known : {S : Type 0} {G : Ghosts S} (s : Scan S G) → s.place ≡ Ended None → is_some (known s.lines.input) ≡ true
 ended-known s at =
-    (both (eqb (length (shown s.input)) 0) (is_some (known s.input)) (sym (ap (λ (p : Place). tested s.levels p (shown s.input) (known s.input)) at) ∙ s.ended)).1
+    (both (eqb (length (shown s.lines.input)) 0) (is_some (known s.lines.input)) (sym (ap (λ (p : Place). tested s.lines.levels p (shown s.lines.input) (known s.lines.input)) at) ∙ s.ended)).1

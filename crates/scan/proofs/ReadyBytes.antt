@@ -178,26 +178,26 @@ waiting_many (Ended f) v all = omega arith
 
 -- What stands ready of a scan's body.
 module _ {S : Type 0} {G : Ghosts S} (source : S → SourceMeaning) (s : Scan S G) where
-  pub ready_at_lem : (p : Place) → s.place ≡ p → ready s ≡ ready_at p (shown s.input) (is_some (known s.input))
+  pub ready_at_lem : (p : Place) → s.place ≡ p → ready s ≡ ready_at p (shown s.lines.input) (is_some (known s.lines.input))
   unfolding ready
-  ready_at_lem p at = ap (λ (x : Place). ready_at x (shown s.input) (is_some (known s.input))) at
+  ready_at_lem p at = ap (λ (x : Place). ready_at x (shown s.lines.input) (is_some (known s.lines.input))) at
 
-  pub ready-some : s.place ≡ Within → 0 < ready_in (shown s.input) (is_some (known s.input)) → 0 < ready s
+  pub ready-some : s.place ≡ Within → 0 < ready_in (shown s.lines.input) (is_some (known s.lines.input)) → 0 < ready s
   ready-some at h = omega (arith, ready_at_lem Within at)
 
-  pub ready-front : (n : ℕ) → n ≤ ready s → take n (waiting s.place (shown s.input)) ≡ take n (raw_left source s)
+  pub ready-front : (n : ℕ) → n ≤ ready s → take n (waiting s.place (shown s.lines.input)) ≡ take n (raw_left source s)
   unfolding ready raw_left
   ready-front n h =
-      waiting-front (groups s.levels) (meaning source s.input) (shown s.input) (unseen source s.input) (is_some (known s.input))
-      (shown-first source s.input) (unseen-known source s.input) s.place n h
+      waiting-front (groups s.lines.levels) (meaning source s.lines.input) (shown s.lines.input) (unseen source s.lines.input) (is_some (known s.lines.input))
+      (shown-first source s.lines.input) (unseen-known source s.lines.input) s.place n h
 
-  pub ready-waits : ready s ≤ length (waiting s.place (shown s.input))
+  pub ready-waits : ready s ≤ length (waiting s.place (shown s.lines.input))
   unfolding ready
-  ready-waits = waiting_many s.place (shown s.input) (is_some (known s.input))
+  ready-waits = waiting_many s.place (shown s.lines.input) (is_some (known s.lines.input))
 
   -- no more stand ready than are left
   pub ready_within : ready s ≤ length (raw_left source s)
   ready_within =
       let n = ready s in
-      let w = waiting s.place (shown s.input) in
+      let w = waiting s.place (shown s.lines.input) in
       omega (arith, ap length (ready-front n (omega arith)), length-take-le n w ready-waits, length-take n (raw_left source s))

@@ -44,31 +44,31 @@ end_stop gs at (l ∷ ls) e =
 
 -- Before a body, or before what is dropped.
 module _ {S : Type 0} {G : Ghosts S} (source : S → Meaning) (s : Scan S G) (at : AtLine s) where
-  pub body-left : raw_left source s ≡ body (groups s.levels) (lines (meaning source s.input).left)
+  pub body-left : raw_left source s ≡ body (groups s.lines.levels) (lines (meaning source s.lines.input).left)
   unfolding raw_left
-  body-left = ap (λ (p : Place). body_at (groups s.levels) p (meaning source s.input).left) at
+  body-left = ap (λ (p : Place). body_at (groups s.lines.levels) p (meaning source s.lines.input).left) at
 
-  pub body-stop : stop source s ≡ stop_from (groups s.levels) (meaning source s.input).offset (lines (meaning source s.input).left)
+  pub body-stop : stop source s ≡ stop_from (groups s.lines.levels) (meaning source s.lines.input).offset (lines (meaning source s.lines.input).left)
   unfolding stop
-  body-stop = ap (λ (p : Place). stop_at (groups s.levels) p (meaning source s.input).offset (meaning source s.input).left) at
+  body-stop = ap (λ (p : Place). stop_at (groups s.lines.levels) p (meaning source s.lines.input).offset (meaning source s.lines.input).left) at
 
-  pub body_end_lem : (e : End) → body_end (groups s.levels) (meaning source s.input).offset (lines (meaning source s.input).left) e ≡ end_at (groups s.levels) (stop source s) e
-  body_end_lem e = end_stop (groups s.levels) (meaning source s.input).offset (lines (meaning source s.input).left) e ∙ ap (λ (x : Stop). end_at (groups s.levels) x e) (sym body-stop)
+  pub body_end_lem : (e : End) → body_end (groups s.lines.levels) (meaning source s.lines.input).offset (lines (meaning source s.lines.input).left) e ≡ end_at (groups s.lines.levels) (stop source s) e
+  body_end_lem e = end_stop (groups s.lines.levels) (meaning source s.lines.input).offset (lines (meaning source s.lines.input).left) e ∙ ap (λ (x : Stop). end_at (groups s.lines.levels) x e) (sym body-stop)
 
   pub body-row : (e : End) (n : ℕ)
-      → row e (groups s.levels) n passing (meaning source s.input).offset (lines (meaning source s.input).left)
-      ≡ row e (groups s.levels) n passing (stop source s).from (stop source s).lines
+      → row e (groups s.lines.levels) n passing (meaning source s.lines.input).offset (lines (meaning source s.lines.input).left)
+      ≡ row e (groups s.lines.levels) n passing (stop source s).from (stop source s).lines
   body-row e n =
-      row-stop e (groups s.levels) n (meaning source s.input).offset (lines (meaning source s.input).left)
-      ∙ ap (λ (x : Stop). row e (groups s.levels) n passing x.from x.lines) (sym body-stop)
+      row-stop e (groups s.lines.levels) n (meaning source s.lines.input).offset (lines (meaning source s.lines.input).left)
+      ∙ ap (λ (x : Stop). row e (groups s.lines.levels) n passing x.from x.lines) (sym body-stop)
 
 -- Counts.
 
 -- the offset is how many bytes were passed over
-pub passed_offset : {S : Type 0} {G : Ghosts S} (source : S → Meaning) (s : Scan S G) → (meaning source s.input).offset ≡ passed_over s
+pub passed_offset : {S : Type 0} {G : Ghosts S} (source : S → Meaning) (s : Scan S G) → (meaning source s.lines.input).offset ≡ passed_over s
 unfolding passed_over meaning
 passed_offset source s = refl
 
 -- they are bytes of the input
-pub passed-limit : {S : Type 0} {G : Ghosts S} (source : S → Meaning) (s : Scan S G) → passed_over s + length (meaning source s.input).left ≤ 16777216
-passed-limit source s = subst (λ (n : ℕ). n + length (meaning source s.input).left ≤ 16777216) (passed_offset source s) (within-limit source s.input)
+pub passed-limit : {S : Type 0} {G : Ghosts S} (source : S → Meaning) (s : Scan S G) → passed_over s + length (meaning source s.lines.input).left ≤ 16777216
+passed-limit source s = subst (λ (n : ℕ). n + length (meaning source s.lines.input).left ≤ 16777216) (passed_offset source s) (within-limit source s.lines.input)

@@ -13,27 +13,27 @@ use Rattle.source.specs.declared.sources.Source.{Ghosts}
 
 -- nothing of the groups and of the input's end has changed, and no CRLF is held back
 pub record Onward {S : Type 0} {G : Ghosts S} (source : S → Meaning) (before after : Scan S G) : Type 0 where
-  pub ends : (meaning source after.input).ending ≡ (meaning source before.input).ending
-  pub inside : after.levels ≡ before.levels
+  pub ends : (meaning source after.lines.input).ending ≡ (meaning source before.lines.input).ending
+  pub inside : after.lines.levels ≡ before.lines.levels
   pub clear : owed after.place ≡ 0
 
 -- the line that ended the body is that line, and the scan stands behind it
 pub record BehindLine {S : Type 0} {G : Ghosts S} (source : S → Meaning) (before after : Scan S G) (r : GroupLine) : Type 0 where
   pub onward : Onward source before after
   pub line : Line
-  pub here : stop source before ≡ record { from = r.at; lines = line ∷ lines (meaning source after.input).left }
-  pub next : (meaning source after.input).offset ≡ r.at + width line
-  pub is : fit_role (groups before.levels) r.fit ≡ role (groups before.levels) line.content
-  pub fit : fits (fit_role (groups before.levels) r.fit) ≡ true
-  pub depth : FitsIn (length (groups before.levels)) r.fit
+  pub here : stop source before ≡ record { from = r.at; lines = line ∷ lines (meaning source after.lines.input).left }
+  pub next : (meaning source after.lines.input).offset ≡ r.at + width line
+  pub is : fit_role (groups before.lines.levels) r.fit ≡ role (groups before.lines.levels) line.content
+  pub fit : fits (fit_role (groups before.lines.levels) r.fit) ≡ true
+  pub depth : FitsIn (length (groups before.lines.levels)) r.fit
   pub further : passed_over before < passed_over after
 
 -- the input's end ended the body, and the scan stands there
 pub record BehindAll {S : Type 0} {G : Ghosts S} (source : S → Meaning) (before after : Scan S G) : Type 0 where
   pub onward : Onward source before after
-  pub here : stop source before ≡ record { from = (meaning source after.input).offset; lines = [] }
-  pub none : (meaning source after.input).left ≡ []
-  pub told : is_some (known after.input) ≡ true
+  pub here : stop source before ≡ record { from = (meaning source after.lines.input).offset; lines = [] }
+  pub none : (meaning source after.lines.input).left ≡ []
+  pub told : is_some (known after.lines.input) ≡ true
   pub further : passed_over before ≤ passed_over after
 
 -- what came behind the body

@@ -3,3 +3,4 @@ pub mod Streams
 pub mod Ready
 pub mod Settles
 pub mod GroupLines
+pub mod Leaving

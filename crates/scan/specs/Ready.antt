@@ -33,7 +33,7 @@ ready_at (Ended f) v all = 0
 
 -- how many bytes of the body stand ready
 unfoldable pub ready : {S : Type 0} {G : Ghosts S} → Scan S G → ℕ
-ready s = ready_at s.place (shown s.input) (is_some (known s.input))
+ready s = ready_at s.place (shown s.lines.input) (is_some (known s.lines.input))
 
 -- a text that begins with the bytes that stand ready at a place where v is shown
 abbrev pub waiting : Place → (v : Bytes) → Bytes

@@ -18,10 +18,10 @@ use Rattle.source.specs.declared.sources.Source.{Ghosts}
 -- the scan stands behind the body: where it stops, at a line that is as the scan's answer says, or at the input's end, and then the answer is none
 pub record Behind {S : Type 0} {G : Ghosts S} (source : S → Meaning) (s : Scan S G) : Type 0 where
   pub none : raw_left source s ≡ []
-  pub here : stop source s ≡ record { from = (meaning source s.input).offset; lines = lines (meaning source s.input).left }
-  pub line : role_by (groups s.levels) (answer s.place) ≡ role (groups s.levels) (leading (meaning source s.input).left)
-  pub within : InDepth (length (groups s.levels)) (answer s.place)
-  pub at_end : answer s.place ≡ None → (meaning source s.input).left ≡ []
+  pub here : stop source s ≡ record { from = (meaning source s.lines.input).offset; lines = lines (meaning source s.lines.input).left }
+  pub line : role_by (groups s.lines.levels) (answer s.place) ≡ role (groups s.lines.levels) (leading (meaning source s.lines.input).left)
+  pub within : InDepth (length (groups s.lines.levels)) (answer s.place)
+  pub at_end : answer s.place ≡ None → (meaning source s.lines.input).left ≡ []
   pub place : s.place ≡ Ended (answer s.place)
 
 -- what was found to come next, where w was the weight before

@@ -32,7 +32,7 @@ body_at gs (Ended f) s = []
 
 -- what is left of the raw body
 unfoldable pub raw_left : {S : Type 0} {G : Ghosts S} → (S → Meaning) → Scan S G → Bytes
-raw_left source s = body_at (groups s.levels) s.place (meaning source s.input).left
+raw_left source s = body_at (groups s.lines.levels) s.place (meaning source s.lines.input).left
 
 -- where a body stops: at a line that fits a group, or at the input's end; by the offset and the lines from there on
 pub record Stop : Type 0 where
@@ -59,7 +59,7 @@ stop_at gs (Ended f) at s = record { from = at; lines = lines s }
 
 -- where the body stops
 unfoldable pub stop : {S : Type 0} {G : Ghosts S} → (S → Meaning) → Scan S G → Stop
-stop source s = stop_at (groups s.levels) s.place (meaning source s.input).offset (meaning source s.input).left
+stop source s = stop_at (groups s.lines.levels) s.place (meaning source s.lines.input).offset (meaning source s.lines.input).left
 
 -- a body's end, by its stop: clean where lines are left, else the input's end as it is met inside the groups
 abbrev pub end_at : List Group → Stop → End → End
@@ -75,17 +75,17 @@ owed (Ended f) = 0
 
 -- how many bytes of the input were passed over
 unfoldable pub passed_over : {S : Type 0} {G : Ghosts S} → Scan S G → ℕ
-passed_over s = s.input.at
+passed_over s = s.lines.input.at
 
 -- the scan moved on by these bytes of the body, and nothing else has changed: the body stops where it did, in the same groups, and the input ends as it did
 pub record Moves {S : Type 0} {G : Ghosts S} (source : S → Meaning) (before after : Scan S G) (given : Bytes) : Type 0 where
   pub gives : given ++ raw_left source after ≡ raw_left source before
   pub stops : stop source after ≡ stop source before
-  pub ends : (meaning source after.input).ending ≡ (meaning source before.input).ending
-  pub inside : after.levels ≡ before.levels
-  pub later : (meaning source before.input).offset ≤ (meaning source after.input).offset
+  pub ends : (meaning source after.lines.input).ending ≡ (meaning source before.lines.input).ending
+  pub inside : after.lines.levels ≡ before.lines.levels
+  pub later : (meaning source before.lines.input).offset ≤ (meaning source after.lines.input).offset
   -- no more is given than the input was passed over
-  pub further : (meaning source before.input).offset + owed after.place + length given ≤ (meaning source after.input).offset + owed before.place
+  pub further : (meaning source before.lines.input).offset + owed after.place + length given ≤ (meaning source after.lines.input).offset + owed before.place
 
 -- the scan stands before a line, and holds no CRLF back
 abbrev pub AtLine : {S : Type 0} {G : Ghosts S} → Scan S G → Type 0
@@ -112,4 +112,4 @@ rank (Ended f) = 0
 
 -- what there is to do yet
 unfoldable pub weight : {S : Type 0} {G : Ghosts S} → (S → Meaning) → Scan S G → ℕ
-weight source s = 4 * length (meaning source s.input).left + rank s.place
+weight source s = 4 * length (meaning source s.lines.input).left + rank s.place

@@ -2,9 +2,8 @@ ghost use Rattle.std.specs.Prelude.{◌≡◌, true};
 ghost use Rattle.input.specs.Inputs.{shown, known};
 ghost use Rattle.scan.specs.Ends.{tested};
 
+use crate::lines::Lines;
 use crate::places::Place;
-use input::Input;
-use levels::Levels;
 use source::Source;
 
 mod bodies;
@@ -17,8 +16,7 @@ pub use lines::GroupLine;
 /// A leaf's raw body, read from an input inside the open groups.
 #[derive(Drop)]
 pub struct Scan<S: Source> {
-    input: Input<S>,
-    levels: Levels,
+    lines: Lines<S>,
     place: Place,
-    ghost ended: { tested levels place (shown input) (known input) ≡ true },
+    ghost ended: { tested lines.levels place (shown lines.input) (known lines.input) ≡ true },
 }

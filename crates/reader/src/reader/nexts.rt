@@ -97,8 +97,9 @@ impl<S: Source> Reader<S> {
         ensures passed { Passed self.new.stage }
     {
         let Some(GroupLine { fit, at }) = self.scan.next_line() else {
-            let at = self.scan.offset();
-            let end = end_in(self.scan.end(), self.scan.levels().depth(), at);
+            let lines = self.scan.lines();
+            let at = lines.offset();
+            let end = end_in(lines.end(), lines.levels().depth(), at);
             self.stage = Stage::Over(last_entry(end, self.entities, at));
             return;
         };
@@ -140,13 +141,16 @@ impl<S: Source> Reader<S> {
         ensures { Tells S.Source.meaning self.old self.new (closed result) }
     {
         let (marks, stage) = closing(fit, at);
-        let number = self.scan.pop().unwrap_or(0);
+        let lines = self.scan.leave_body();
+        let number = lines.pop().unwrap_or(0);
+        let parent = lines.levels().innermost();
+        let depth = lines.levels().depth();
         self.stage = stage;
         Event {
             kind: Kind::Close,
             number,
-            parent: self.scan.levels().innermost(),
-            depth: self.scan.levels().depth(),
+            parent,
+            depth,
             at,
             coding: Coding::Plain,
             marks,

@@ -38,8 +38,8 @@ impl<S: Source> Scan<S> {
         ensures moved { Moves S.Source.meaning self.old self.new [] }
         ensures nearer { weight S.Source.meaning self.new < weight S.Source.meaning self.old }
     {
-        self.input.fill(NEAR);
-        let fit = self.levels.fit_view(self.input.view());
+        self.lines.input.fill(NEAR);
+        let fit = self.lines.levels.fit_view(self.lines.input.view());
         self.place = opening(fit, held);
     }
 
@@ -49,13 +49,13 @@ impl<S: Source> Scan<S> {
         ensures moved { Moves S.Source.meaning self.old self.new [] }
         ensures found { Found S.Source.meaning result self.new (weight S.Source.meaning self.old) }
     {
-        self.input.fill(2);
-        let next = next_of(self.input.view());
+        self.lines.input.fill(2);
+        let next = next_of(self.lines.input.view());
         match next {
             Next::Byte => {}
             Next::Nothing => self.place = Place::Ended(None),
             Next::Unknown => {
-                self.input.consume(2);
+                self.lines.input.consume(2);
                 self.place = Place::Start { held: true };
             }
         }

@@ -55,19 +55,23 @@ impl<S: Source> Scan<S> {
         match self.place {
             Place::Return => most.min(2),
             Place::Feed => most.min(1),
-            Place::Within => ready_in(self.input.view(), self.input.end().is_some(), most),
+            Place::Within => ready_in(
+                self.lines.input.view(),
+                self.lines.input.end().is_some(),
+                most,
+            ),
             Place::Start { .. } | Place::Ended(_) => 0,
         }
     }
 
     /// A text that begins with the bytes that stand ready.
     fn waiting(&self) -> &[u8]
-        ensures { result.now ≡ waiting self.now.place (shown self.now.input) }
+        ensures { result.now ≡ waiting self.now.place (shown self.now.lines.input) }
     {
         match self.place {
             Place::Return => b"\r\n",
             Place::Feed => b"\n",
-            _ => self.input.view(),
+            _ => self.lines.input.view(),
         }
     }
 
@@ -85,7 +89,7 @@ impl<S: Source> Scan<S> {
     {
         let n = self.ready(n);
         match self.place {
-            Place::Within => self.input.consume(n),
+            Place::Within => self.lines.input.consume(n),
             place => self.place = past(place, n),
         }
     }

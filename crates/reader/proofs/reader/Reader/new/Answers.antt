@@ -11,5 +11,5 @@ unfolding meaning
 returns g c =
     let source = g.S.Source.meaning in
     let s = c.new-2.result in
-    made_by c.args.number (groups s.levels) (input_meaning source s.input) (stop source s) (source c.args.source) c.new-2.ensures.groups
+    made_by c.args.number (groups s.lines.levels) (input_meaning source s.lines.input) (stop source s) (source c.args.source) c.new-2.ensures.groups
     (ap (input_meaning source) c.new-2.ensures.input ∙ c.new.ensures.means)

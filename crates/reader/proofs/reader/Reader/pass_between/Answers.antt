@@ -1,7 +1,7 @@
-use Rattle.std.proofs.Common.{◌≡◌, ℕ, List, [], length, sym, refl, ap, ◌∙◌}
+use Rattle.std.proofs.Common.{◌≡◌, ℕ, List, [], length, sym, refl, ap, ◌∙◌, subst}
 use Rattle.byte_lines.specs.Lines.{lines}
 use Rattle.source.specs.declared.ends.End.{End}
-use Rattle.input.specs.Inputs.{meaning as input_meaning}
+use Rattle.input.specs.Inputs.{meaning as input_meaning, Knows}
 use Rattle.message.specs.Groups.{Group}
 use Rattle.message.specs.Rows.{row, passing}
 use Rattle.levels.specs.declared.levels.Levels.{Levels}
@@ -24,10 +24,10 @@ returns-clause-means g c =
     let n = r.entities in
     let l = c.in-Some.field-0 in
     let h = c.in-Some.ensures in
-    let i = input_meaning source a.input in
-    let i' = input_meaning source b.input in
-    let gs : List Group = groups a.levels in
-    let was : ahead_by r.stage gs n i (stop source a) ≡ ahead_by (Line l.fit l.at) (groups b.levels) n i' (stop source b) =
+    let i = input_meaning source a.lines.input in
+    let i' = input_meaning source b.lines.input in
+    let gs : List Group = groups a.lines.levels in
+    let was : ahead_by r.stage gs n i (stop source a) ≡ ahead_by (Line l.fit l.at) (groups b.lines.levels) n i' (stop source b) =
     ap (λ (st : Stage). ahead_by st gs n i (stop source a)) c.requires
     ∙ ap (λ (s : Stop). row i.ending gs n passing s.from s.lines) h.here
     ∙ row_line i.ending gs n l.at h.line (lines i'.left) l.fit i' (stop source b) h.is h.fit (sym h.onward.ends) (sym h.next) refl
@@ -43,13 +43,15 @@ returns-in_default-clause-means g c =
     let b = c.next_line.new.self in
     let n = r.entities in
     let h = c.in_default.ensures in
-    let i = input_meaning source a.input in
-    let i' = input_meaning source b.input in
-    let gs : List Group = groups a.levels in
-    let gs' : List Group = groups b.levels in
-    let at : c.offset-at.result ≡ i'.offset = c.offset-at.ensures in
-    let met = c.end_in-end.ensures ∙ end_met source b.input gs' c.end.result c.depth.result c.offset-at.result c.end.ensures.means h.told
-    (c.depth.ensures ∙ ap (λ (x : Levels). length (groups x)) c.levels.ensures) in
+    let i = input_meaning source a.lines.input in
+    let i' = input_meaning source b.lines.input in
+    let gs : List Group = groups a.lines.levels in
+    let gs' : List Group = groups b.lines.levels in
+    let lent = c.lines-lines.ensures in
+    let at : c.offset-at.result ≡ i'.offset = c.offset-at.ensures ∙ ap (λ x. (input_meaning source x.input).offset) lent in
+    let knows = subst (λ x. Knows source x.input c.end.result) lent c.end.ensures.means in
+    let met = c.end_in-end.ensures ∙ end_met source b.lines.input gs' c.end.result c.depth.result c.offset-at.result knows h.told
+    (c.depth.ensures ∙ ap (λ (x : Levels). length (groups x)) (c.levels.ensures ∙ ap (λ x. x.levels) lent)) in
     let was : ahead_by r.stage gs n i (stop source a) ≡ ahead_by (Over c.last_entry.result) gs' n i' (stop source b) =
     ap (λ (st : Stage). ahead_by st gs n i (stop source a)) c.requires
     ∙ ap (λ (s : Stop). row i.ending gs n passing s.from s.lines) h.here

@@ -22,8 +22,8 @@ returns-in-Line-Separates-eq0-default-clause-means g c =
     let source = g.S.Source.meaning in
     let r = c.args.self.now in
     let l = c.in-Line-Separates-eq0-default in
-    let gs = groups r.scan.levels in
-    let i = input_meaning source r.scan.input in
+    let gs = groups r.scan.lines.levels in
+    let i = input_meaning source r.scan.lines.input in
     let s = stop source r.scan in
     let here : r.stage ≡ Line (Separates 0) l.at = is_separator r.stage l.fit l.at l.fit-0 l.is (rw l.is at l.fit-is) (sym l.fit-0-is ∙ l.fit-0-test) in
     meaning_by r.number r.delivered _ _ _ _

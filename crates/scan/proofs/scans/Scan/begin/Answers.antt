@@ -10,7 +10,7 @@ use Rattle.scan.proofs.scans.Scan.begin.Goals as goal
 
 pub invariant_of-self : goal.invariant_of-self
 invariant_of-self g c =
-    let l = c.args.self.now.levels in
+    let l = c.args.self.now.lines.levels in
     let i = c.fill.new.self in
     let f = c.fit_view-fit.result in record {
       ended = tested_begun l f c.args.held (shown i) (known i) c.opening-self.result c.opening-self.ensures
@@ -22,7 +22,7 @@ invariant_of-self g c =
 pub returns : goal.returns
 returns g c =
     let s = c.args.self.now in
-    let gs = groups s.levels in
+    let gs = groups s.lines.levels in
     let source = g.S.Source.meaning in
     let i = c.fill.new.self in
     let f = c.fit_view-fit.result in
