@@ -59,13 +59,13 @@ pub record MoreSoFar (base : ℕ) (text rest : Bytes) (old new : Packer) : Type 
   pub fields : fields_of (lines text) ≡ fields_of (lines rest)
   pub fits : new.to + length rest ≤ old.to + length text
 
-pub more-none_yet : (base : ℕ) (text : Bytes) (p : Packer) → MoreSoFar base text text p p
-more-none_yet base text p = record { done = []; puts = subst (Puts p p) (sym (stripped-nil (ltb base p.to))) (puts-nil p); joins = refl; fields = refl; fits = omega arith }
+pub more_none_yet : (base : ℕ) (text : Bytes) (p : Packer) → MoreSoFar base text text p p
+more_none_yet base text p = record { done = []; puts = subst (Puts p p) (sym (stripped-nil (ltb base p.to))) (puts-nil p); joins = refl; fields = refl; fits = omega arith }
 
 -- one more line, with `behind` after it
-pub more-line : (base : ℕ) (text rest behind : Bytes) (old mid new : Packer) (len w : ℕ) → base ≤ old.to → MoreSoFar base text rest old mid → continues rest ≡ true → FirstLine rest len w → behind ≡ drop w rest
+pub more_line : (base : ℕ) (text rest behind : Bytes) (old mid new : Packer) (len w : ℕ) → base ≤ old.to → MoreSoFar base text rest old mid → continues rest ≡ true → FirstLine rest len w → behind ≡ drop w rest
     → Puts mid new (stripped (ltb base mid.to) (take len rest)) → MoreSoFar base text behind old new
-more-line base text rest behind old mid new len w h m y f b p =
+more_line base text rest behind old mid new len w h m y f b p =
     let line = take len rest in
     let g : gathered (lines rest) ≡ record { more = line ++ (gathered (lines behind)).more; fields = fields_of (lines behind) } = rw b (gathered-more rest len w f y) in
     record {

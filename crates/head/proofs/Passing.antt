@@ -1,39 +1,33 @@
 -- What it says of a head's lines that all of them pass.
-use Rattle.std.proofs.Common.{◌≡◌, ℕ, ◌+◌, ◌<◌, ◌≤◌, true, false, ◌&&◌, eqb, ltb, leb, ◌⊎◌, List, [], ◌∷◌, length, sym, refl, ap, ◌∙◌, inl, inr, ⊎_elim, arith}
+use Rattle.std.proofs.Common.{◌≡◌, ℕ, ◌+◌, ◌<◌, ◌≤◌, Bool, true, false, cond, ◌&&◌, eqb, ltb, leb, ◌⊎◌, List, [], ◌∷◌, length, sym, refl, ap, ◌∙◌, inl, inr, ⊎_elim, arith}
+use Rattle.std.specs.List.{flat_map}
+use Rattle.std.proofs.lemmas.List.{length-append}
 use Rattle.std.proofs.lemmas.Bool.{cases_Bool, and_parts, ltb-true, ltb-false, leb-true, ne_eqb, or_from}
 use Rattle.byte_lines.specs.Bytes.{Bytes}
 use Rattle.byte_lines.specs.Classes.{within}
-use Rattle.byte_lines.specs.Lines.{Line, lines, onto, width}
+use Rattle.byte_lines.specs.Lines.{Line, lines, crlf, width, line_bytes}
 use Rattle.byte_lines.specs.Strings.{has, every, before}
+use Rattle.byte_lines.proofs.LineLaws.{joined-lines}
 use Rattle.head.specs.Fields.{Gathered, is_field, continues, gathered, fields_of}
 use Rattle.head.specs.LineFaults.{Verdict, passes, faulty, unclean, judged}
 use Rattle.head.proofs.Gathers.{starts_more, starts_lines, gathered_on, gathered_new}
 use Rattle.head.proofs.Places.{before_here, before_there}
 
--- the lines of a text take all its bytes
+-- how many bytes some lines take
 widths : List Line → ℕ
-widths [] = 0
-widths (l ∷ ls) = width l + widths ls
+widths ls = length (flat_map line_bytes ls)
 
-widths-onto : (b : ℕ) (ls : List Line) → widths (onto b ls) ≡ 1 + widths ls
+width_none : widths [] ≡ 0
 unfolding widths
-widths-onto b [] = refl
-widths-onto b (l ∷ ls) = omega arith
+width_none = refl
 
-widths_pair : (b c : ℕ) (cs : Bytes) → (eqb c 10 && eqb b 13) ≡ true → widths (lines (b ∷ c ∷ cs)) ≡ 2 + widths (lines cs)
-unfolding lines widths
-widths_pair b c cs y = rw (lines, y)
-
-widths_other : (b c : ℕ) (cs : Bytes) → (eqb c 10 && eqb b 13) ≡ false → widths (lines (b ∷ c ∷ cs)) ≡ 1 + widths (lines (c ∷ cs))
-unfolding lines
-widths_other b c cs n = rw (lines, n) (widths-onto b (lines (c ∷ cs)))
-
-widths-lines : (s : Bytes) → widths (lines s) ≡ length s
-unfolding lines widths
-widths-lines [] = refl
-widths-lines (b ∷ []) = refl
-widths-lines (b ∷ c ∷ cs) =
-    ⊎_elim (λ y. let h = widths-lines cs in omega (arith, widths_pair b c cs y)) (λ n. let h = widths-lines (c ∷ cs) in omega (arith, widths_other b c cs n)) (cases_Bool (eqb c 10 && eqb b 13))
+width_more : (l : Line) (ls : List Line) → widths (l ∷ ls) ≡ width l + widths ls
+unfolding widths
+width_more l ls = omega (arith, length-append (line_bytes l) (flat_map line_bytes ls), length-append l.content (cond l.ended crlf []), end_width l.ended)
+  where
+    end_width : (t : Bool) → length (cond t crlf []) ≡ cond t 2 0
+    end_width true = refl
+    end_width false = refl
 
 -- a field line begins with no blank
 named-first : (b : ℕ) (bs : Bytes) → within 1 64 (length (before 58 (b ∷ bs))) ≡ true → every (within 33 126) (before 58 (b ∷ bs)) ≡ true → continues (b ∷ bs) ≡ false
@@ -114,11 +108,12 @@ Counts : (size n m : ℕ) → List Line → Type 0
 Counts size n m ls = (m ≡ n + length (fields_of ls)) × (n ≤ 64 → m ≤ 64) × (size ≤ 8192 → size + widths ls ≤ 8192)
 
 counts : (ls : List Line) (size n m : ℕ) → judged size n ls ≡ passes m → Counts size n m ls
-unfolding judged gathered widths Passed Counts
-counts [] size n m e = let q : n ≡ m = cc in (omega arith, λ h. omega arith, λ h. omega arith)
+unfolding judged gathered Passed Counts
+counts [] size n m e = let q : n ≡ m = cc in (omega arith, λ h. omega arith, λ h. omega (arith, width_none))
 counts (l ∷ ls) size n m e =
     let p = passed size n m l ls e in
     let within = p.0 in
+    let more = width_more l ls in
     ⊎_elim
     (λ (w : (is_field l.content ≡ true) × (n < 64) × (judged (size + width l) (n + 1) ls ≡ passes m)).
     let k = counts ls (size + width l) (n + 1) m w.2 in
@@ -144,11 +139,11 @@ pub record Lawful (head : Bytes) : Type 0 where
   pub short : length head ≤ 8192
 
 pub lawful : (head : Bytes) (m : ℕ) → judged 0 0 (lines head) ≡ passes m → Lawful head
-unfolding Counts
+unfolding Counts widths
 lawful head m e =
     let k = counts (lines head) 0 0 m e in
     record {
       starts = sym (starts_lines head) ∙ first_starts (lines head) 0 m e;
       few = omega (arith, k.0, k.1 (omega arith));
-      short = omega (arith, k.2 (omega arith), widths-lines head);
+      short = omega (arith, k.2 (omega arith), ap length (joined-lines head));
     }

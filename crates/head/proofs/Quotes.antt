@@ -93,9 +93,9 @@ unfolding closes
 closes-ends s i p h = ap (λ (t : Bytes). closes t p) (drop_all i s h)
 
 -- how far a piece goes
-pub length-ends : (q : Quote) (s : Bytes) (i : ℕ) → i < length s → ends_piece q (get_or s i 0) ≡ true → piece_length q (drop i s) ≡ 0
+pub length_ends : (q : Quote) (s : Bytes) (i : ℕ) → i < length s → ends_piece q (get_or s i 0) ≡ true → piece_length q (drop i s) ≡ 0
 unfolding piece_length
-length-ends q s i h t =
+length_ends q s i h t =
     let g : piece_length q (get_or s i 0 ∷ drop (i + 1) s) ≡ 0 = rw (piece_length, t) in
     ap (piece_length q) (drop_more s i 0 h) ∙ g
 

@@ -31,6 +31,7 @@ fn ends_piece(place: Place, b: u8) -> bool
 }
 
 /// How long the value's first piece is.
+#[tactic(auto, using(crate::proofs::Quotes::length_ends, crate::proofs::Quotes::length_more, crate::proofs::Quotes::length_all))]
 fn piece_len(value: &[u8]) -> usize
     ensures { result ≡ piece_length outside value.now }
 {
