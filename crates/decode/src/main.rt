@@ -32,9 +32,7 @@ fn run(rt: &HostRuntime) -> anyhow::Result<()> {
     if options.time {
         return time(rt, &options, raw.as_slice(), out.as_mut_slice());
     }
-    let Ok((len, end)) = decode_whole(options.coding, raw.as_slice(), out.as_mut_slice()) else {
-        return Err(anyhow!("a body of more than 16777216 bytes"));
-    };
+    let (len, end) = decode_whole(options.coding, raw.as_slice(), out.as_mut_slice())?;
     let decoded = out.as_slice();
     rt.stdout().write_all(&decoded[0..len.min(decoded.len())])?;
     match end {

@@ -9,16 +9,17 @@ ghost use Rattle.decode.specs.Wholes.{put, wholly};
 
 use coding::{Coding, Decoder};
 use source::End;
+use thiserror::Error;
 
 /// No input is longer.
 const LONGEST: usize = 16_777_216;
 
 /// Why a body is not decoded.
-#[derive(Clone, Copy, PartialEq, Eq, Debug)]
+#[derive(Clone, Copy, PartialEq, Eq, Debug, Error)]
 pub enum Unfit {
-    /// It is longer than an input.
+    #[error("a body of more than 16777216 bytes")]
     TooLong,
-    /// It is longer than the buffer.
+    #[error("a body longer than the buffer")]
     NoRoom,
 }
 

@@ -14,6 +14,9 @@ use message::{Event, Kind};
 use scan::GroupLine;
 use source::{End, Fault, Source};
 
+/// The mark of a group that no line of its own closed.
+const UNTERMINATED: u32 = 4;
+
 /// The fit of a line where one group more is open inside the others.
 fn deeper(fit: Fit) -> Fit
     requires { FitsIn 8 fit }
@@ -32,15 +35,15 @@ fn closing(fit: Fit, at: u32) -> (u32, Stage)
     match fit {
         Fit::Closes(0) => (0, Stage::Between),
         Fit::Closes(i) => (
-            4,
+            UNTERMINATED,
             Stage::Line {
                 fit: Fit::Closes(i - 1),
                 at,
             },
         ),
-        Fit::Separates(0) => (4, Stage::Head),
+        Fit::Separates(0) => (UNTERMINATED, Stage::Head),
         Fit::Separates(i) => (
-            4,
+            UNTERMINATED,
             Stage::Line {
                 fit: Fit::Separates(i - 1),
                 at,
