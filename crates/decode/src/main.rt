@@ -45,6 +45,7 @@ fn run(rt: &HostRuntime) -> anyhow::Result<()> {
     }
 }
 
+// The same stands in `intake`: shared it would be a public function, and of what a file gives no contract can speak.
 fn read_all(rt: &HostRuntime, options: &Options) -> anyhow::Result<Vec<u8>> {
     match &options.file {
         Some(path) => match fs::read(rt, path.as_str()) {

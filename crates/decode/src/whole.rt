@@ -9,19 +9,31 @@ ghost use Rattle.decode.specs.Wholes.{put, wholly};
 
 use coding::{Coding, Decoder};
 use source::End;
-use thiserror::Error;
+use std::error::Error;
+use std::fmt;
 
 /// No input is longer.
 const LONGEST: usize = 16_777_216;
 
 /// Why a body is not decoded.
-#[derive(Clone, Copy, PartialEq, Eq, Debug, Error)]
+#[derive(Clone, Copy, PartialEq, Eq, Debug)]
 pub enum Unfit {
-    #[error("a body of more than 16777216 bytes")]
+    /// It is longer than an input.
     TooLong,
-    #[error("a body longer than the buffer")]
+    /// It is longer than the buffer.
     NoRoom,
 }
+
+impl fmt::Display for Unfit {
+    fn fmt<W: fmt::Write>(&self, f: &mut fmt::Formatter<W>) -> fmt::Result {
+        match self {
+            Unfit::TooLong => write!(f, "a body of more than {LONGEST} bytes"),
+            Unfit::NoRoom => write!(f, "a body longer than the buffer"),
+        }
+    }
+}
+
+impl Error for Unfit {}
 
 /// Feeds a raw body to a decoder until nothing waits: how many bytes stand at the buffer's start then.
 fn feed_all(decoder: &mut Decoder, raw: &[u8], out: &mut [u8]) -> usize

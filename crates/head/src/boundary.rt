@@ -1,5 +1,4 @@
 ghost use Rattle.std.specs.Prelude.{◌≤◌};
-ghost use Rattle.head.specs.declared.boundary.TheConstants.{LONGEST};
 
 pub(crate) mod reads;
 
@@ -12,5 +11,5 @@ const LONGEST: usize = 70;
 pub struct Boundary {
     bytes: [u8; LONGEST],
     len: usize,
-    ghost fits: { len ≤ LONGEST },
+    ghost fits: { len ≤ 70 },
 }

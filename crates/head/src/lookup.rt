@@ -11,9 +11,9 @@ use std::marker::Model;
 fn part(buffer: &[u8], start: u16, len: u16) -> &[u8]
     ensures { result.now ≡ take len (drop start buffer.now) }
 {
-    let from = (start as usize).min(buffer.len());
+    let from = usize::from(start).min(buffer.len());
     let rest = &buffer[from..];
-    &rest[..(len as usize).min(rest.len())]
+    &rest[..usize::from(len).min(rest.len())]
 }
 
 /// The fields that a table's records name in a head buffer.

@@ -42,6 +42,7 @@ fn run(rt: &HostRuntime) -> anyhow::Result<()> {
     Ok(())
 }
 
+// The same stands in `decode`: shared it would be a public function, and of what a file gives no contract can speak.
 fn read_all(rt: &HostRuntime, options: &Options) -> anyhow::Result<Vec<u8>> {
     match &options.file {
         Some(path) => match fs::read(rt, path.as_str()) {

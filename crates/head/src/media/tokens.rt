@@ -2,7 +2,6 @@ ghost use Rattle.std.specs.Prelude.{◌≡◌};
 ghost use Rattle.byte_lines.specs.Strings.{trim};
 ghost use Rattle.head.specs.Media.{token_byte, token};
 
-pub(crate) use crate::texts::find;
 use crate::texts::{trimmed_end, trimmed_start};
 
 /// Whether the byte may stand in a token.
