@@ -1,4 +1,4 @@
-use coding::{Coding, Decoder, Fed};
+use coding::{Coding, Decoder, Fed, StillReady};
 use source::{End, Fault};
 use std::alloc::Global;
 use std::process::Abort;
@@ -114,7 +114,7 @@ fn holds_in(
     feed(rt, &mut decoder, &raw[0..first], buffer, &mut out)?;
     feed(rt, &mut decoder, &raw[first..second], buffer, &mut out)?;
     feed(rt, &mut decoder, &raw[second..], buffer, &mut out)?;
-    assert!(rt; decoder.finish(case.met));
+    assert_eq!(rt; decoder.finish(case.met), Ok(()));
     feed(rt, &mut decoder, &[], buffer, &mut out)?;
     assert!(rt; out.as_slice() == case.data);
     assert_eq!(rt; decoder.outcome(), Some(case.end));
@@ -345,13 +345,14 @@ fn places_and_refusals(rt: HostRuntime) {
     let mut decoder = Decoder::new(Coding::Base64, 16_777_215);
     assert_eq!(rt; decoder.feed(b"cG", &mut []).taken, 1);
     assert_eq!(rt; decoder.feed(b"G", &mut []).taken, 0);
-    assert!(rt; decoder.finish(End::Clean));
+    assert_eq!(rt; decoder.finish(End::Clean), Ok(()));
     assert_eq!(rt; decoder.outcome(), Some(faulty(51, 5, 16_777_216)));
     let mut plain = Decoder::new(Coding::Plain, 0);
     assert_eq!(rt; plain.feed(b"ab", &mut []).taken, 1);
-    assert!(rt; plain.is_ready() && !plain.finish(End::Clean));
+    assert!(rt; plain.is_ready());
+    assert_eq!(rt; plain.finish(End::Clean), Err(StillReady));
     assert_eq!(rt; plain.outcome(), None);
     assert_eq!(rt; plain.feed(b"b", &mut [0; 4]).given, 1);
-    assert!(rt; plain.finish(End::Clean));
+    assert_eq!(rt; plain.finish(End::Clean), Ok(()));
     assert_eq!(rt; plain.outcome(), Some(End::Clean));
 }

@@ -1,33 +1,23 @@
 -- How many bytes a decoder may still give for the raw bytes that it has taken.
-use Rattle.std.proofs.Common.{◌≡◌, ℕ, ◌+◌, ◌-◌, ◌≤◌, min, List, [], ◌++◌, length, drop, ap, ◌∙◌, arith}
-use Rattle.std.specs.List.{flat_map}
+use Rattle.std.proofs.Common.{◌≡◌, ℕ, ◌+◌, ◌-◌, ◌≤◌, min, [], ◌++◌, length, drop, ap, ◌∙◌, arith}
 use Rattle.std.proofs.lemmas.List.{length-append, length-drop}
 use Rattle.byte_lines.specs.Bytes.{Bytes}
 use Rattle.source.specs.declared.ends.End.{End}
 use Rattle.coding.specs.declared.decoder.Mode.{Mode}
 use Rattle.coding.specs.declared.decoder.Mode.TheVariants.{Plain, Base64, Quoted, Spent, Ended}
-use Rattle.coding.specs.Base64.{bits, octets}
 use Rattle.coding.specs.Decoding.{Decoded, gives}
 use Rattle.coding.specs.Modes.{later_by, backlog_by}
-use Rattle.coding.specs.QuotedHeld.{held_bytes}
+use Rattle.coding.specs.Buffers.{items}
 use Rattle.coding.specs.Sextets.{sextets_of}
-use Rattle.coding.proofs.Base64Laws.{length-octets, length-bits}
-use Rattle.coding.proofs.Base64Steps.{from_end}
+use Rattle.coding.proofs.Base64Steps.{octets_fewer, from_end}
 use Rattle.coding.proofs.QuotedLonger.{never_longer_lem}
-
--- characters give no more bytes than there are of them
-pub octets-fewer : (vs : List ℕ) (w : Bytes) → w ≡ octets (flat_map bits vs) → length w ≤ length vs
-octets-fewer vs w given =
-    let n = ap length given ∙ length-octets (flat_map bits vs) in
-    let m = length-bits vs in
-    omega arith
 
 -- where the raw body ends, no more comes of what is held back than that
 pub end_fewer : (mode : Mode) (at : ℕ) (e : End) → length (later_by mode at [] e).bytes ≤ backlog_by mode
 end_fewer Plain at e = omega arith
-end_fewer (Base64 d) at e = let vs = sextets_of d.held in octets-fewer vs _ (ap (λ (x : Decoded). x.bytes) (from_end vs at e))
+end_fewer (Base64 d) at e = let vs = sextets_of d.held in let f = octets_fewer vs in rw from_end f
 end_fewer (Quoted d) at e =
-    let h = held_bytes d in
+    let h = items d.held in
     let n = never_longer_lem (at - length h) (h ++ []) e in
     let l = length-append h [] in
     omega arith

@@ -11,23 +11,7 @@ use Rattle.source.specs.Meanings.{fault}
 use Rattle.coding.specs.Decoding.{gives, prefixed}
 use Rattle.coding.specs.Base64.{sextet, keeping, sextets, bits, octets, data_part, has_equals, base64_end, base64_from}
 use Rattle.coding.specs.Base64Laws.{alphabet, letter, encoded, Counts, NeverLonger, RoundTrip, IgnoresOthers, Base64Law}
-use Rattle.coding.proofs.Base64Steps.{byte1, byte2, byte3, octets-two, octets-three, from_character, from_equals, from_end, group_is}
-
-pub length-octets : (bs : List ℕ) → length (octets bs) ≡ length bs / 8
-unfolding octets
-length-octets [] = refl
-length-octets (a ∷ []) = refl
-length-octets (a ∷ b ∷ []) = refl
-length-octets (a ∷ b ∷ c ∷ []) = refl
-length-octets (a ∷ b ∷ c ∷ d ∷ []) = refl
-length-octets (a ∷ b ∷ c ∷ d ∷ e ∷ []) = refl
-length-octets (a ∷ b ∷ c ∷ d ∷ e ∷ f ∷ []) = refl
-length-octets (a ∷ b ∷ c ∷ d ∷ e ∷ f ∷ g ∷ []) = refl
-length-octets (a ∷ b ∷ c ∷ d ∷ e ∷ f ∷ g ∷ h ∷ rest) = let ih = length-octets rest in omega arith
-
-pub length-bits : (vs : List ℕ) → length (flat_map bits vs) ≡ 6 * length vs
-length-bits [] = refl
-length-bits (v ∷ vs) = let ih = length-bits vs in omega arith
+use Rattle.coding.proofs.Base64Steps.{length-octets, length-bits, byte1, byte2, byte3, octets-two, octets-three, from_character, from_equals, from_end, group_is}
 
 length-sextets : (bs : Bytes) → length (sextets bs) ≤ length bs
 unfolding sextets

@@ -1,14 +1,14 @@
 -- Base64 by one raw byte at a time, and by groups of four characters.
-use Rattle.std.proofs.Common.{◌≡◌, ℕ, suc, ◌+◌, ◌*◌, ◌/◌, ◌%◌, ◌<◌, ◌≤◌, Bool, true, false, eqb, List, [], ◌∷◌, ◌++◌, length, Some, None, Option, sym, refl, ap, ◌∙◌, inl, inr, add-zero, arith, rules}
+use Rattle.std.proofs.Common.{◌≡◌, ℕ, suc, ◌+◌, ◌*◌, ◌/◌, ◌%◌, ◌<◌, ◌≤◌, true, false, not, ◌&&◌, is_some, get_or, drop, eqb, List, [], ◌∷◌, ◌++◌, length, Some, None, Option, sym, refl, ap, ◌∙◌, inl, inr, add-zero, arith, rules}
 use Rattle.std.specs.List.{flat_map}
 use Rattle.std.proofs.lemmas.List.{append_assoc, append-nil}
-use Rattle.std.proofs.lemmas.Bool.{eqb-true, ne_eqb, cases_Bool}
+use Rattle.std.proofs.lemmas.Bool.{eqb-true, cases_Bool, and_parts, not-true}
 use Rattle.byte_lines.specs.Bytes.{Bytes}
 use Rattle.source.specs.declared.ends.End.{End}
 use Rattle.source.specs.Meanings.{fault}
 use Rattle.coding.specs.Decoding.{gives, prefixed}
+use Rattle.coding.specs.Sextets.{three_of, group_of}
 use Rattle.coding.specs.Base64.{sextet, sextets, bits, octets, data_part, has_equals, base64_end, base64_from}
-use Rattle.coding.specs.Sextets.{sextet_or}
 
 -- the three bytes of four characters
 abbrev pub byte1 : (a b : ℕ) → ℕ
@@ -66,7 +66,7 @@ equals_none b v s =
     ]
 
 -- a byte that is ignored
-from_ignored : (vs : List ℕ) (at b : ℕ) (q : Bytes) (e : End) → eqb b 61 ≡ false → sextet b ≡ None → base64_from vs at (b ∷ q) e ≡ base64_from vs (at + 1) q e
+pub from_ignored : (vs : List ℕ) (at b : ℕ) (q : Bytes) (e : End) → eqb b 61 ≡ false → sextet b ≡ None → base64_from vs at (b ∷ q) e ≡ base64_from vs (at + 1) q e
 unfolding base64_from sextets data_part has_equals
 from_ignored vs at b q e n s =
     let place : at + suc (length (data_part q)) ≡ at + 1 + length (data_part q) = omega arith in
@@ -81,12 +81,16 @@ from_character vs at b v q e s =
     rw (n, data_part, has_equals, s, sextets, place, append_assoc)
 
 -- four characters are three bytes
-from-group : (a b c d at : ℕ) (q : Bytes) (e : End) → base64_from (a ∷ (b ∷ (c ∷ (d ∷ [])))) at q e ≡ prefixed (byte1 a b ∷ (byte2 b c ∷ (byte3 c d ∷ []))) (base64_from [] at q e)
+pub from_group : (a b c d at : ℕ) (q : Bytes) (e : End) → base64_from (a ∷ (b ∷ (c ∷ (d ∷ [])))) at q e ≡ prefixed (byte1 a b ∷ (byte2 b c ∷ (byte3 c d ∷ []))) (base64_from [] at q e)
 unfolding base64_from
-from-group a b c d at q e =
+from_group a b c d at q e =
     let n = length (sextets (data_part q)) in
     let same : suc (suc (suc (suc n))) % 4 ≡ n % 4 = omega arith in
     rw (octets_four a b c d (flat_map bits (sextets (data_part q))), same)
+
+-- a fourth one
+pub from_fourth : (a b c at d v : ℕ) (q : Bytes) (e : End) → sextet d ≡ Some v → base64_from (a ∷ (b ∷ (c ∷ []))) at (d ∷ q) e ≡ prefixed (three_of a b c v) (base64_from [] (at + 1) q e)
+from_fourth a b c at d v q e s = from_character (a ∷ (b ∷ (c ∷ []))) at d v q e s ∙ from_group a b c v (at + 1) q e
 
 -- an '=' ends the data
 pub from_equals : (vs : List ℕ) (at : ℕ) (q : Bytes) (e : End) → base64_from vs at (61 ∷ q) e ≡ gives (octets (flat_map bits vs)) (base64_end (eqb (length vs % 4) 1) true (fault 51 5 at) e)
@@ -98,26 +102,28 @@ pub from_end : (vs : List ℕ) (at : ℕ) (e : End) → base64_from vs at [] e �
 unfolding base64_from sextets data_part has_equals
 from_end vs at e = rw (append-nil vs, add-zero at)
 
--- what a step gives, where vs was held before it and w waits behind it
-pub step_ignored : (vs w : List ℕ) (at b : ℕ) (q : Bytes) (e : End) → w ≡ [] → (b ≡ 61 → ⊥) → sextet b ≡ None → base64_from vs at (b ∷ q) e ≡ prefixed w (base64_from vs (at + 1) q e)
-step_ignored vs w at b q e empty n s = rw empty (from_ignored vs at b q e (ne_eqb b 61 n) s)
+-- characters give no more bytes than there are of them
+pub length-octets : (bs : List ℕ) → length (octets bs) ≡ length bs / 8
+unfolding octets
+length-octets [] = refl
+length-octets (a ∷ []) = refl
+length-octets (a ∷ b ∷ []) = refl
+length-octets (a ∷ b ∷ c ∷ []) = refl
+length-octets (a ∷ b ∷ c ∷ d ∷ []) = refl
+length-octets (a ∷ b ∷ c ∷ d ∷ e ∷ []) = refl
+length-octets (a ∷ b ∷ c ∷ d ∷ e ∷ f ∷ []) = refl
+length-octets (a ∷ b ∷ c ∷ d ∷ e ∷ f ∷ g ∷ []) = refl
+length-octets (a ∷ b ∷ c ∷ d ∷ e ∷ f ∷ g ∷ h ∷ rest) = let ih = length-octets rest in omega arith
 
-pub step-held : (vs us w : List ℕ) (at b v : ℕ) (q : Bytes) (e : End) → vs ≡ us → w ≡ [] → sextet b ≡ Some v → base64_from vs at (b ∷ q) e ≡ prefixed w (base64_from (us ++ (v ∷ [])) (at + 1) q e)
-step-held vs us w at b v q e held empty s = rw (empty, held) (from_character us at b v q e s)
+pub length-bits : (vs : List ℕ) → length (flat_map bits vs) ≡ 6 * length vs
+length-bits [] = refl
+length-bits (v ∷ vs) = let ih = length-bits vs in omega arith
 
-pub pushed-three : {w0 w1 w2 w3 : Bytes} {x y z : ℕ} → w0 ≡ [] → w1 ≡ w0 ++ (x ∷ []) → w2 ≡ w1 ++ (y ∷ []) → w3 ≡ w2 ++ (z ∷ []) → w3 ≡ x ∷ (y ∷ (z ∷ []))
-pushed-three {w0} {w1} {w2} {w3} {x} {y} {z} p q r s = s ∙ ap (λ (w : Bytes). w ++ (z ∷ [])) (r ∙ ap (λ (w : Bytes). w ++ (y ∷ [])) (q ∙ ap (λ (w : Bytes). w ++ (x ∷ [])) p))
+pub octets_fewer : (vs : List ℕ) → length (octets (flat_map bits vs)) ≤ length vs
+octets_fewer vs = let n = length-octets (flat_map bits vs) in let m = length-bits vs in omega arith
 
-pub step-group : (vs : List ℕ) {w : Bytes} {t : ℕ × ℕ × ℕ} (x y z at b v : ℕ) (q : Bytes) (e : End) → vs ≡ x ∷ (y ∷ (z ∷ [])) → sextet b ≡ Some v → w ≡ t.0 ∷ (t.1 ∷ (t.2 ∷ [])) → t ≡ (byte1 x y, byte2 y z, byte3 z v) → base64_from vs at (b ∷ q) e ≡ prefixed w (base64_from [] (at + 1) q e)
-step-group vs {w} {t} x y z at b v q e held s given group =
-    let three : w ≡ byte1 x y ∷ (byte2 y z ∷ (byte3 z v ∷ [])) = given ∙ ap (λ (r : ℕ × ℕ × ℕ). r.0 ∷ (r.1 ∷ (r.2 ∷ []))) group in
-    rw (three, held) (from_character (x ∷ (y ∷ (z ∷ []))) at b v q e s ∙ from-group x y z v (at + 1) q e)
-
-pub step_equals : (vs w : List ℕ) (over : Bool) (at b : ℕ) (q : Bytes) (e : End) → b ≡ 61 → over ≡ eqb (length vs % 4) 1 → w ≡ octets (flat_map bits vs) → base64_from vs at (b ∷ q) e ≡ prefixed w (gives [] (base64_end over true (fault 51 5 at) e))
-step_equals vs w over at b q e equals left given = rw (equals, left, given, append-nil (octets (flat_map bits vs))) (from_equals vs at q e)
-
-pub finished : (vs w : List ℕ) (over : Bool) (at : ℕ) (e : End) → over ≡ eqb (length vs % 4) 1 → w ≡ octets (flat_map bits vs) → base64_from vs at [] e ≡ gives w (base64_end over false (fault 51 5 at) e)
-finished vs w over at e left given = rw (left, given) (from_end vs at e)
+pub step_equals : (vs : List ℕ) (at : ℕ) (q : Bytes) (e : End) → base64_from vs at (61 ∷ q) e ≡ prefixed (octets (flat_map bits vs)) (gives [] (base64_end (eqb (length vs % 4) 1) true (fault 51 5 at) e))
+step_equals vs at q e = rw append-nil (from_equals vs at q e)
 
 -- four raw bytes, each a character
 pub group_is : (a b c d x y z v : ℕ) → sextet a ≡ Some x → sextet b ≡ Some y → sextet c ≡ Some z → sextet d ≡ Some v → (at : ℕ) (q : Bytes) (e : End) → base64_from [] at (a ∷ (b ∷ (c ∷ (d ∷ q)))) e ≡ prefixed (byte1 x y ∷ (byte2 y z ∷ (byte3 z v ∷ []))) (base64_from [] (at + 4) q e)
@@ -127,21 +133,55 @@ group_is a b c d x y z v ha hb hc hd at q e =
     ∙ from_character (x ∷ []) (at + 1) b y (c ∷ (d ∷ q)) e hb
     ∙ from_character (x ∷ (y ∷ [])) (at + 1 + 1) c z (d ∷ q) e hc
     ∙ from_character (x ∷ (y ∷ (z ∷ []))) (at + 1 + 1 + 1) d v q e hd
-    ∙ from-group x y z v (at + 1 + 1 + 1 + 1) q e
+    ∙ from_group x y z v (at + 1 + 1 + 1 + 1) q e
     ∙ ap (λ (n : ℕ). prefixed (byte1 x y ∷ (byte2 y z ∷ (byte3 z v ∷ []))) (base64_from [] n q e)) place
 
--- an entry below 64 is what the byte stands for
-entry_some : (o : Option ℕ) (v : ℕ) → v ≡ sextet_or o → v < 64 → o ≡ Some v
-entry_some (Some x) v e h = ap Some (sym e)
-entry_some None v e h = absurd (omega arith)
+none_is : (o : Option ℕ) → is_some o ≡ false → o ≡ None
+none_is None h = refl
+none_is (Some v) h = cc
 
-pub some_sextet : (b v : ℕ) → v ≡ sextet_or (sextet b) → v < 64 → sextet b ≡ Some v
-some_sextet b v e h = entry_some (sextet b) v e h
+-- characters that make a group, by what they stand for
+group_by : (t q : Bytes) (o p r u : Option ℕ) → (a b c d : ℕ) → sextet a ≡ o → sextet b ≡ p → sextet c ≡ r → sextet d ≡ u → Some t ≡ group_of o p r u
+    → (at : ℕ) (e : End) → base64_from [] at (a ∷ (b ∷ (c ∷ (d ∷ q)))) e ≡ prefixed t (base64_from [] (at + 4) q e)
+group_by t q (Some x) (Some y) (Some z) (Some v) a b c d ha hb hc hd k at e =
+    let same : three_of x y z v ≡ t = cc in
+    group_is a b c d x y z v ha hb hc hd at q e ∙ ap (λ (l : Bytes). prefixed l (base64_from [] (at + 4) q e)) same
+group_by t q (Some x) (Some y) (Some z) None a b c d ha hb hc hd k at e = cc
+group_by t q (Some x) (Some y) None u a b c d ha hb hc hd k at e = cc
+group_by t q (Some x) None r u a b c d ha hb hc hd k at e = cc
+group_by t q None p r u a b c d ha hb hc hd k at e = cc
 
--- and one that is 64 is of a byte that stands for nothing
-entry-none : (o : Option ℕ) (v : ℕ) → ((x : ℕ) → o ≡ Some x → x < 64) → v ≡ sextet_or o → 64 ≤ v → o ≡ None
-entry-none (Some x) v small e h = let lt = small x refl in absurd (omega arith)
-entry-none None v small e h = refl
+-- a group at the start of raw bytes, and an ignored byte
+pub group_first : (s t : Bytes) → 4 ≤ length s → Some t ≡ group_of (sextet (get_or s 0 0)) (sextet (get_or s 1 0)) (sextet (get_or s 2 0)) (sextet (get_or s 3 0))
+    → (at : ℕ) (q : Bytes) (e : End) → base64_from [] at (s ++ q) e ≡ prefixed t (base64_from [] (at + 4) (drop 4 s ++ q) e)
+group_first [] t h k at q e = absurd (omega arith)
+group_first (a ∷ []) t h k at q e = absurd (omega arith)
+group_first (a ∷ b ∷ []) t h k at q e = absurd (omega arith)
+group_first (a ∷ b ∷ c ∷ []) t h k at q e = absurd (omega arith)
+group_first (a ∷ b ∷ c ∷ d ∷ s) t h k at q e = group_by t (s ++ q) (sextet a) (sextet b) (sextet c) (sextet d) a b c d refl refl refl refl k at e
 
-pub none-sextet : (b v : ℕ) → v ≡ sextet_or (sextet b) → 64 ≤ v → sextet b ≡ None
-none-sextet b v e h = entry-none (sextet b) v (λ x s. sextet_small b x s) e h
+pub ignored_first : (s : Bytes) → 0 < length s → not (eqb (get_or s 0 0) 61) && not (is_some (sextet (get_or s 0 0))) ≡ true
+    → (at : ℕ) (q : Bytes) (e : End) → base64_from [] at (s ++ q) e ≡ base64_from [] (at + 1) (drop 1 s ++ q) e
+ignored_first [] h k at q e = absurd (omega arith)
+ignored_first (b ∷ s) h k at q e =
+    let p = and_parts (not (eqb b 61)) (not (is_some (sextet b))) k in
+    from_ignored [] at b (s ++ q) e (not-true (eqb b 61) p.0) (none_is (sextet b) (not-true (is_some (sextet b)) p.1))
+
+-- by a table whose entries are 64 where a byte stands for nothing
+abbrev pub sextet_or : Option ℕ → ℕ
+sextet_or (Some v) = v
+sextet_or None = 64
+
+entry_some : (o : Option ℕ) → sextet_or o < 64 → Some (sextet_or o) ≡ o
+entry_some (Some x) h = refl
+entry_some None h = absurd (omega arith)
+
+pub some_sextet : (b v : ℕ) → v ≡ sextet_or (sextet b) → v < 64 → Some v ≡ sextet b
+some_sextet b v e h = let k : sextet_or (sextet b) < 64 = omega arith in ap (λ (n : ℕ). Some n) e ∙ entry_some (sextet b) k
+
+entry-none : (o : Option ℕ) → ((x : ℕ) → o ≡ Some x → x < 64) → 64 ≤ sextet_or o → None ≡ o
+entry-none (Some x) small h = let lt = small x refl in absurd (omega arith)
+entry-none None small h = refl
+
+pub none-sextet : (b v : ℕ) → v ≡ sextet_or (sextet b) → 64 ≤ v → None ≡ sextet b
+none-sextet b v e h = let k : 64 ≤ sextet_or (sextet b) = omega arith in entry-none (sextet b) (λ x s. sextet_small b x s) k

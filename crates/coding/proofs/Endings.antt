@@ -8,7 +8,7 @@ use Rattle.coding.specs.declared.decoder.Mode.TheVariants.{Plain, Base64, Quoted
 use Rattle.coding.specs.Base64.{base64_from, base64_end, has_equals}
 use Rattle.coding.specs.Decoding.{Decoded}
 use Rattle.coding.specs.Modes.{later_by}
-use Rattle.coding.specs.QuotedHeld.{held_bytes}
+use Rattle.coding.specs.Buffers.{items}
 use Rattle.coding.proofs.QuotedShapes.{shape_of}
 use Rattle.coding.proofs.QuotedSteps.{ended}
 
@@ -20,6 +20,6 @@ pub ends_as_input : (mode : Mode) (at : ℕ) → ((x : End) → mode ≡ Ended x
 unfolding base64_from has_equals
 ends_as_input Plain at live g = refl
 ends_as_input (Base64 d) at live g = base64_open _ _ g
-ends_as_input (Quoted d) at live g = ap (λ (x : Decoded). x.ending) (ended d.kind (held_bytes d) (at - length (held_bytes d)) (Faulty g) (shape_of d d.kind refl))
+ends_as_input (Quoted d) at live g = ap (λ (x : Decoded). x.ending) (ended d.kind (items d.held) (at - length (items d.held)) (Faulty g) (shape_of d d.kind refl))
 ends_as_input Spent at live g = refl
 ends_as_input (Ended x) at live g = absurd (live x refl)

@@ -1,5 +1,5 @@
 -- What a feed gives and leaves, over plain lists.
-use Rattle.std.proofs.Common.{◌≡◌, ℕ, ◌+◌, ◌-◌, ◌<◌, ◌≤◌, min, Bool, true, false, not, eqb, [], ◌∷◌, ◌++◌, length, get_or, take, drop, sym, refl, ap, ◌∙◌, arith}
+use Rattle.std.proofs.Common.{◌≡◌, ℕ, ◌+◌, ◌<◌, ◌≤◌, min, Bool, true, false, not, eqb, [], ◌∷◌, ◌++◌, length, get_or, take, drop, sym, refl, ap, ◌∙◌, arith}
 use Rattle.std.proofs.lemmas.List.{append_assoc, length-append, length-take-le, take-append-drop, take_at, drop_at, drop-append-le, drop_more, nil_from_length}
 use Rattle.std.proofs.lemmas.Bool.{eqb-true, eqb-false, not-true, not-false}
 use Rattle.byte_lines.specs.Bytes.{Bytes}
@@ -8,8 +8,6 @@ use Rattle.source.specs.declared.ends.End.{End}
 use Rattle.source.specs.declared.ends.End.TheVariants.{Clean, Faulty}
 use Rattle.source.specs.Meanings.{fault}
 use Rattle.coding.specs.Decoding.{Decoded, gives, prefixed}
-use Rattle.coding.specs.Quoted.{quoted}
-use Rattle.coding.specs.QuotedHeld.{quoted_from}
 use Rattle.coding.specs.Decoders.{Feeds}
 
 -- nothing waits, or something does, by the test of the queue
@@ -35,12 +33,12 @@ front n s out out' l e = ap (take n) e ∙ take_at s (drop n out) n l
 pub behind : (n : ℕ) (s out out' : Bytes) → length s ≡ n → out' ≡ s ++ drop n out → drop n out' ≡ drop n out
 behind n s out out' l e = ap (drop n) e ∙ drop_at s (drop n out) n l
 
--- a copy of the raw bytes themselves
-pub copied : (n : ℕ) (raw out out' q : Bytes) (e : End) → n ≤ length raw → out' ≡ take n raw ++ drop n out → gives (raw ++ q) e ≡ prefixed (take n out') (gives (drop n raw ++ q) e)
-copied n raw out out' q e le f =
+-- a copy of raw bytes at a buffer's start
+pub copied : (n : ℕ) (raw out q : Bytes) (e : End) → n ≤ length raw → gives (raw ++ q) e ≡ prefixed (take n (take n raw ++ drop n out)) (gives (drop n raw ++ q) e)
+copied n raw out q e le =
     let l = length-take-le n raw le in
     ap (λ (t : Bytes). gives (t ++ q) e) (sym (take-append-drop n raw)) ∙ ap (λ (t : Bytes). gives t e) (append_assoc (take n raw) (drop n raw) q)
-    ∙ ap (λ (t : Bytes). gives (t ++ (drop n raw ++ q)) e) (sym (front n (take n raw) out out' l f))
+    ∙ ap (λ (t : Bytes). gives (t ++ (drop n raw ++ q)) e) (sym (take_at (take n raw) (drop n out) n l))
 
 -- what waited was given
 pub gave-waiting : (w out out' raw : Bytes) (later : Bytes → End → Decoded) (place n : ℕ) (w' : Bytes) → 0 < length w → n ≡ min (length w) (length out) → w' ≡ drop n w
@@ -117,10 +115,9 @@ number_of Clean = 9
 number_of (Faulty f) = f.number
 
 -- a body that is not settled ends as its input does, so that two inputs end it in two ways
-pub open_ended : (w : Bytes) (later : Bytes → End → Decoded) (x : End) → ((g : Fault) → (later [] (Faulty g)).ending ≡ Faulty g)
-    → ((raw : Bytes) (e : End) → prefixed w (later raw e) ≡ gives [] x) → ⊥
-open_ended w later x follows settled =
-    let ends : (g : Fault) → x ≡ Faulty g = λ g. sym (ap (λ (d : Decoded). d.ending) (settled [] (Faulty g))) ∙ follows g in
+pub open_ended : (later : Bytes → End → Decoded) (x : End) → ((g : Fault) → (later [] (Faulty g)).ending ≡ Faulty g) → ((raw : Bytes) (e : End) → (later raw e).ending ≡ x) → ⊥
+open_ended later x follows settled =
+    let ends : (g : Fault) → x ≡ Faulty g = λ g. sym (settled [] (Faulty g)) ∙ follows g in
     let z : ◌≡◌ {A = ℕ} 0 1 = ap number_of (sym (ends (fault 0 0 0)) ∙ ends (fault 1 0 0)) in
     omega arith
 
@@ -129,12 +126,3 @@ pub still_waiting : (w : Bytes) (later : Bytes → End → Decoded) (x : End) �
 still_waiting w later x some settled =
     let n = ap (λ (d : Decoded). length d.bytes) (settled [] Clean) in
     omega (arith, n, length-append w (later [] Clean).bytes)
-
--- A quoted-printable decoder that holds nothing back.
-quoted-none : (h : Bytes) (at : ℕ) (s : Bytes) (e : End) → h ≡ [] → quoted_from h at s e ≡ quoted at s e
-quoted-none h at s e none =
-    let z : at - 0 ≡ at = omega arith in
-    ap (λ (k : Bytes). quoted_from k at s e) none ∙ ap (λ (n : ℕ). quoted n s e) z
-
-pub quoted-ran : (h : Bytes) (at n : ℕ) (s s' t : Bytes) (e : End) → h ≡ [] → quoted at s e ≡ prefixed t (quoted (at + n) s' e) → quoted_from h at s e ≡ prefixed t (quoted_from h (at + n) s' e)
-quoted-ran h at n s s' t e none whole = quoted-none h at s e none ∙ whole ∙ ap (prefixed t) (sym (quoted-none h (at + n) s' e none))

@@ -1,6 +1,5 @@
-pub mod Windows
 pub mod Base64Steps
-pub mod Base64Runs
+pub mod Runs
 pub mod Base64Laws
 pub mod QuotedPieces
 pub mod QuotedShapes
@@ -8,9 +7,7 @@ pub mod QuotedBytes
 pub mod QuotedHeld
 pub mod QuotedBreaks
 pub mod QuotedSteps
-pub mod Tables
 pub mod QuotedTokens
-pub mod QuotedRuns
 pub mod QuotedLonger
 pub mod QuotedBack
 pub mod QuotedPlain

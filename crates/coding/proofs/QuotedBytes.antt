@@ -23,6 +23,12 @@ hex_no_blank b v k = or_from (eqb b 32) (eqb b 9) (hex_not 32 b v refl k) (hex_n
 pub blank_no_hex : (b : ℕ) → blank b ≡ true → hex b ≡ None
 blank_no_hex b h = ⊎_elim (λ e. ap hex (eqb-true b 32 e)) (λ e. ap hex (eqb-true b 9 e)) (or_cases (eqb b 32) (eqb b 9) h)
 
+-- two digits that are a byte
+pub digits : (o p : Option ℕ) (v : ℕ) → byte_of o p ≡ Some v → (h : ℕ) × (l : ℕ) × (o ≡ Some h) × (p ≡ Some l)
+digits (Some h) (Some l) v e = (h, l, refl, refl)
+digits (Some h) None v e = cc
+digits None p v e = cc
+
 -- pieces ----------------------------------------------------------------------------------------
 
 -- no '=' and two hexadecimal digits, where an '=' stands before s

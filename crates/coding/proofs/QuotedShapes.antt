@@ -1,8 +1,8 @@
 -- What is held back of a line, taken apart and put together.
-use Rattle.std.proofs.Common.{◌≡◌, ℕ, ◌+◌, ◌<◌, ◌≤◌, Bool, true, false, ◌&&◌, eqb, leb, [], ◌∷◌, ◌++◌, length, get_or, is_some, Some, None, Option, sym, refl, ap, ◌∙◌, append_assoc, arith}
+use Rattle.std.proofs.Common.{◌≡◌, ℕ, ◌+◌, ◌≤◌, Bool, true, false, ◌&&◌, eqb, leb, [], ◌∷◌, ◌++◌, length, take, get_or, is_some, Some, None, Option, sym, refl, ap, ◌∙◌, append_assoc, arith}
 use mathlib.Core.Bool.{false≢true}
 use mir.Val.{bool_byte}
-use Rattle.std.proofs.lemmas.List.{length-append, length-take-le, get_or-take, nil_from_length}
+use Rattle.std.proofs.lemmas.List.{length-append, nil_from_length}
 use Rattle.std.proofs.lemmas.Bool.{and_parts, and_from, eqb-true, leb-true, le-leb}
 use Rattle.byte_lines.specs.Bytes.{Bytes}
 use Rattle.byte_lines.specs.Classes.{blank, hex}
@@ -10,7 +10,7 @@ use Rattle.coding.specs.declared.quoted.Kind.{Kind}
 use Rattle.coding.specs.declared.quoted.Kind.TheVariants.{Blanks, Digit, Cr}
 use Rattle.coding.specs.declared.quoted.Quoted.{Quoted}
 use Rattle.coding.specs.Quoted.{also}
-use Rattle.coding.specs.QuotedHeld.{held_bytes}
+use Rattle.coding.specs.Buffers.{items}
 use Rattle.coding.specs.QuotedShapes.{all_blank, blanks_held, digit_held, before_cr, cr_held, shaped}
 
 abbrev pub AllBlank : Bytes → Type 0
@@ -142,6 +142,10 @@ pub length_equals : (soft : Bool) → length (equals_if soft) ≡ bool_byte soft
 length_equals true = refl
 length_equals false = refl
 
+pub equals_first : (soft : Bool) (run : Bytes) → take (bool_byte soft) (equals_if soft ++ run) ≡ equals_if soft
+equals_first true run = refl
+equals_first false run = refl
+
 one_least : (soft : Bool) → bool_byte soft ≤ 1
 one_least true = omega arith
 one_least false = omega arith
@@ -198,15 +202,8 @@ shape_digit held b v h z k =
 
 -- a decoder -------------------------------------------------------------------------------------
 
-pub held-length : (s : Quoted) → length (held_bytes s) ≡ s.len
-held-length s = let w = s.whole in let n = s.within in length-take-le s.len s.held (omega arith)
+pub shape_of : (s : Quoted) (kind : Kind) → s.kind ≡ kind → Shape kind (items s.held)
+shape_of s kind e = shape_parts kind (items s.held) (ap (λ (k : Kind). shaped k (items s.held)) (sym e) ∙ s.shape)
 
-pub shape_of : (s : Quoted) (kind : Kind) → s.kind ≡ kind → Shape kind (held_bytes s)
-shape_of s kind e = shape_parts kind (held_bytes s) (ap (λ (k : Kind). shaped k (held_bytes s)) (sym e) ∙ s.shape)
-
-pub digit_at : (s : Quoted) (k : Half (held_bytes s)) → get_or s.held 1 0 ≡ k.digit
-digit_at s k =
-    let n = held-length s in
-    let l = ap length k.is in
-    let two : 1 < s.len = omega arith in
-    sym (get_or-take s.len s.held 1 0 two) ∙ ap (λ (l : Bytes). get_or l 1 0) k.is
+pub digit_at : (h : Bytes) (k : Half h) → get_or h 1 0 ≡ k.digit
+digit_at h k = ap (λ (l : Bytes). get_or l 1 0) k.is

@@ -1,6 +1,7 @@
 -- What a raw byte does to a decoder, by what it holds back.
-use Rattle.std.proofs.Common.{◌≡◌, ℕ, ◌+◌, ◌-◌, ◌<◌, ◌≤◌, Bool, true, false, not, ◌&&◌, eqb, ◌⊎◌, [], ◌∷◌, ◌++◌, length, Some, None, sym, refl, ap, ◌∙◌, ⊎_elim, append_assoc, append-nil, arith}
+use Rattle.std.proofs.Common.{◌≡◌, ℕ, ◌+◌, ◌-◌, ◌<◌, ◌≤◌, Bool, true, false, not, ◌&&◌, eqb, ◌⊎◌, [], ◌∷◌, ◌++◌, length, get_or, take, Some, None, sym, refl, ap, ◌∙◌, ⊎_elim, append_assoc, append-nil, arith}
 use mir.Val.{bool_byte}
+use Rattle.std.specs.Option.{IsSome}
 use Rattle.std.proofs.lemmas.List.{length-append}
 use Rattle.std.proofs.lemmas.Bool.{and_right, and_from, lt-leb, le-leb, ne_eqb, or_from}
 use Rattle.byte_lines.specs.Bytes.{Bytes}
@@ -9,16 +10,13 @@ use Rattle.byte_lines.specs.Lines.{crlf, lines}
 use Rattle.source.specs.declared.ends.End.{End}
 use Rattle.source.specs.declared.ends.End.TheVariants.{Faulty}
 use Rattle.source.specs.Meanings.{fault}
-use Rattle.coding.specs.declared.flow.Flow.{Flow}
-use Rattle.coding.specs.declared.flow.Flow.TheVariants.{On, Ended}
 use Rattle.coding.specs.declared.quoted.Kind.{Kind}
 use Rattle.coding.specs.declared.quoted.Kind.TheVariants.{Blanks, Digit, Cr}
 use Rattle.coding.specs.Decoding.{gives, prefixed}
-use Rattle.coding.specs.Flowing.{flowing, still_held}
 use Rattle.coding.specs.QuotedHeld.{quoted_from, Mere}
 use Rattle.coding.specs.Quoted.{byte_of, quoted_lines, quoted}
-use Rattle.coding.proofs.QuotedShapes.{AllBlank, equals_if, Blank, Return, Half, Shape, length_equals, blank-length}
-use Rattle.coding.proofs.QuotedBytes.{Plain, plain_start, plain_second, blank_no_hex}
+use Rattle.coding.proofs.QuotedShapes.{digit_at, equals_first, AllBlank, equals_if, Blank, Return, Half, Shape, blank-length}
+use Rattle.coding.proofs.QuotedBytes.{digits, Plain, plain_start, plain_second, blank_no_hex}
 use Rattle.coding.proofs.QuotedHeld.{goes_on_one, goes_start, quoted_other, quoted-escape, release_blanks, release_return, release_half}
 use Rattle.coding.proofs.QuotedBreaks.{broken, quoted_break, quoted_end, quoted-fault}
 
@@ -89,105 +87,66 @@ released (Cr soft) h at b q e s l =
 
 -- steps -----------------------------------------------------------------------------------------
 
-broken-length : (soft : Bool) → length (broken soft crlf) ≤ 2
-broken-length true = omega arith
-broken-length false = omega arith
-
 -- with h held, the byte b at the offset `at` gives `out`, and h' is held then
-pub record Steps (h : Bytes) (at b : ℕ) (out : Bytes) (r : Flow) (h' : Bytes) : Type 0 where
-  pub decoded : (q : Bytes) (e : End) → quoted_from h at (b ∷ q) e ≡ prefixed out (flowing r (quoted_from h' (at + 1)) q e)
-  pub behind : length h' ≤ at + 1
-  pub fewer : length out + still_held r (length h') ≤ length h + 1
+abbrev pub Holds : (h : Bytes) (at b : ℕ) (out h' : Bytes) → Type 0
+Holds h at b out h' = (q : Bytes) (e : End) → quoted_from h at (b ∷ q) e ≡ prefixed out (quoted_from h' (at + 1) q e)
 
-pub step_as : {h : Bytes} {at b : ℕ} {r : Flow} {out out' h' h'' : Bytes} → Steps h at b out r h' → out' ≡ out → h'' ≡ h' → Steps h at b out' r h''
-step_as s p k = record { decoded = λ q e. rw (p, k) (s.decoded q e); behind = rw k s.behind; fewer = rw (p, k) s.fewer }
+pub both_digits : (h : Bytes) (b : ℕ) → Half h → IsHex b → IsSome (byte_of (hex (get_or h 1 0)) (hex b))
+both_digits h b s x =
+    let high = ap hex (digit_at h s) ∙ s.hexadecimal in
+    rw (high, (is_hex b x).1) refl
 
 module _ (h : Bytes) (at b : ℕ) (behind : length h ≤ at) where
-  -- undecided as yet
-  pub step-hold : Steps h at b [] On (h ++ (b ∷ []))
-  step-hold =
-      let l = length-append h (b ∷ []) in
-      let place : at - length h ≡ at + 1 - length (h ++ (b ∷ [])) = omega arith in
-      record {
-        decoded = λ q e.
-            ap (λ (i : ℕ). quoted i (h ++ (b ∷ q)) e) place ∙ ap (λ (l : Bytes). quoted (at + 1 - length (h ++ (b ∷ []))) l e) (sym (append_assoc h (b ∷ []) q));
-        behind = omega arith;
-        fewer = omega arith;
-      }
-
   -- what was held is given, and b is held
-  pub step-release : (kind : Kind) → Shape kind h → Loose kind (length h) b → Steps h at b h On (b ∷ [])
-  step-release kind s l =
+  pub step_release : (kind : Kind) → Shape kind h → Loose kind (length h) b → Holds h at b h (b ∷ [])
+  step_release kind s l q e =
       let place : at - length h + length h ≡ at + 1 - 1 = omega arith in
-      record {
-        decoded = λ q e. released kind h (at - length h) b q e s l ∙ ap (λ (i : ℕ). prefixed h (quoted i (b ∷ q) e)) place;
-        behind = omega arith;
-        fewer = omega arith;
-      }
+      released kind h (at - length h) b q e s l ∙ ap (λ (i : ℕ). prefixed h (quoted i (b ∷ q) e)) place
 
   -- what was held is given, and b
-  pub step-literal : (kind : Kind) → Shape kind h → Loose kind (length h) b → Mere b → Steps h at b (h ++ (b ∷ [])) On []
-  step-literal kind s l m =
-      let n = length-append h (b ∷ []) in
+  pub step_literal : (kind : Kind) → Shape kind h → Loose kind (length h) b → Mere b → Holds h at b (h ++ (b ∷ [])) []
+  step_literal kind s l m q e =
       let place : at - length h + length h + 1 ≡ at + 1 - 0 = omega arith in
-      record {
-        decoded = λ q e.
-            released kind h (at - length h) b q e s l
-            ∙ ap (prefixed h) (quoted_mere_one b (at - length h + length h) q e m)
-            ∙ ap (λ (i : ℕ). prefixed h (prefixed (b ∷ []) (quoted i q e))) place
-            ∙ ap (λ (l : Bytes). gives l (quoted (at + 1 - 0) q e).ending) (sym (append_assoc h (b ∷ []) (quoted (at + 1 - 0) q e).bytes));
-        behind = omega arith;
-        fewer = omega arith;
-      }
+      released kind h (at - length h) b q e s l
+      ∙ ap (prefixed h) (quoted_mere_one b (at - length h + length h) q e m)
+      ∙ ap (λ (i : ℕ). prefixed h (prefixed (b ∷ []) (quoted i q e))) place
+      ∙ ap (λ (l : Bytes). gives l (quoted (at + 1 - 0) q e).ending) (sym (append_assoc h (b ∷ []) (quoted (at + 1 - 0) q e).bytes))
 
   -- the LF of a CRLF
-  pub step-break : (soft : Bool) → Return soft h → b ≡ 10 → Steps h at b (broken soft crlf) On []
-  step-break soft s t =
+  pub step_break : (soft : Bool) → Return soft h → b ≡ 10 → Holds h at b (broken soft crlf) []
+  step_break soft s t q e =
       let k = s.blanks in
       let f = equals_if soft ++ k.run in
       let is : h ≡ f ++ (13 ∷ []) = s.is ∙ ap (λ (l : Bytes). l ++ (13 ∷ [])) k.is in
       let size = ap length is ∙ length-append f (13 ∷ []) in
       let place : at - length h + (length f + 2) ≡ at + 1 - 0 = omega arith in
-      let two = broken-length soft in
-      record {
-        decoded = λ q e.
-            ap (λ (l : Bytes). quoted (at - length h) l e) (ap (λ (l : Bytes). l ++ (b ∷ q)) is ∙ ap (λ (n : ℕ). (f ++ (13 ∷ [])) ++ (n ∷ q)) t ∙ append_assoc f (13 ∷ []) (10 ∷ q))
-            ∙ quoted_break soft k.run (at - length h) q e k.all k.most
-            ∙ ap (λ (i : ℕ). prefixed (broken soft crlf) (quoted i q e)) place;
-        behind = omega arith;
-        fewer = omega arith;
-      }
+      ap (λ (l : Bytes). quoted (at - length h) l e) (ap (λ (l : Bytes). l ++ (b ∷ q)) is ∙ ap (λ (n : ℕ). (f ++ (13 ∷ [])) ++ (n ∷ q)) t ∙ append_assoc f (13 ∷ []) (10 ∷ q))
+      ∙ quoted_break soft k.run (at - length h) q e k.all k.most
+      ∙ ap (λ (i : ℕ). prefixed (broken soft crlf) (quoted i q e)) place
 
   -- the 77th blank
-  pub step-fault : (soft : Bool) → Blank soft h → length h ≡ 76 + bool_byte soft → blank b ≡ true → Steps h at b (equals_if soft) (Ended (Faulty (fault 52 5 (at - 76)))) []
-  step-fault soft s m t =
+  pub step_fault : (soft : Bool) → Blank soft h → length h ≡ 76 + bool_byte soft → blank b ≡ true
+      → (q : Bytes) (e : End) → quoted_from h at (b ∷ q) e ≡ prefixed (take (bool_byte soft) h) (gives [] (Faulty (fault 52 5 (at - 76))))
+  step_fault soft s m t q e =
+      let first : equals_if soft ≡ take (bool_byte soft) h = sym (ap (take (bool_byte soft)) s.is ∙ equals_first soft s.run) in
       let size = blank-length soft h s in
       let place : at - length h + bool_byte soft ≡ at - 76 = omega arith in
-      let one = length_equals soft in
-      record {
-        decoded = λ q e.
-            ap (λ (l : Bytes). quoted (at - length h) (l ++ (b ∷ q)) e) s.is
-            ∙ quoted-fault soft s.run b (at - length h) q e s.all (omega arith) t
-            ∙ ap (λ (i : ℕ). gives (equals_if soft) (Faulty (fault 52 5 i))) place
-            ∙ ap (λ (l : Bytes). gives l (Faulty (fault 52 5 (at - 76)))) (sym (append-nil (equals_if soft)));
-        behind = omega arith;
-        fewer = omega arith;
-      }
+      ap (λ (l : Bytes). quoted (at - length h) (l ++ (b ∷ q)) e) s.is
+      ∙ quoted-fault soft s.run b (at - length h) q e s.all (omega arith) t
+      ∙ ap (λ (i : ℕ). gives (equals_if soft) (Faulty (fault 52 5 i))) place
+      ∙ ap (λ (l : Bytes). gives l (Faulty (fault 52 5 (at - 76)))) (sym (append-nil (equals_if soft)))
+      ∙ ap (λ (l : Bytes). prefixed l (gives [] (Faulty (fault 52 5 (at - 76))))) first
 
   -- the second digit
-  pub step-escape : (s : Half h) (v : ℕ) → IsHex b → byte_of (hex s.digit) (hex b) ≡ Some v → Steps h at b (v ∷ []) On []
-  step-escape s v x t =
+  pub step_escape : (s : Half h) (v : ℕ) → byte_of (hex (get_or h 1 0)) (hex b) ≡ Some v → Holds h at b (v ∷ []) []
+  step_escape s v byte q e =
       let size = ap length s.is in
       let place : at - length h + 3 ≡ at + 1 - 0 = omega arith in
-      let low = is_hex b x in
-      record {
-        decoded = λ q e.
-            ap (λ (l : Bytes). quoted (at - length h) (l ++ (b ∷ q)) e) s.is
-            ∙ quoted-escape s.digit b v (at - length h) q e s.value low.0 s.hexadecimal low.1 t
-            ∙ ap (λ (i : ℕ). prefixed (v ∷ []) (quoted i q e)) place;
-        behind = omega arith;
-        fewer = omega arith;
-      }
+      let t = ap (λ (n : ℕ). byte_of (hex n) (hex b)) (sym (digit_at h s)) ∙ byte in
+      let low = digits (hex s.digit) (hex b) v t in
+      ap (λ (l : Bytes). quoted (at - length h) (l ++ (b ∷ q)) e) s.is
+      ∙ quoted-escape s.digit b v (at - length h) q e low.0 low.1 low.2 low.3 t
+      ∙ ap (λ (i : ℕ). prefixed (v ∷ []) (quoted i q e)) place
 
 -- the body's end ----------------------------------------------------------------------------------
 

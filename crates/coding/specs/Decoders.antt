@@ -5,7 +5,7 @@ use Rattle.source.specs.declared.ends.End.{End}
 use Rattle.coding.specs.declared.decoder.Decoder.{Decoder}
 use Rattle.coding.specs.Decoding.{Decoded, gives, prefixed}
 use Rattle.coding.specs.Modes.{later_by, backlog_by}
-use Rattle.coding.specs.Waiting.{waiting}
+use Rattle.coding.specs.Buffers.{items}
 
 -- the input has no byte at this offset or past it, so a decoder takes none
 abbrev pub limit : ℕ
@@ -19,11 +19,11 @@ pub record Meaning : Type 0 where
   pub place : ℕ
 
 abbrev pub meaning : Decoder → Meaning
-meaning d = record { ready = waiting d.ready; later = later_by d.mode d.at; place = d.at }
+meaning d = record { ready = items d.ready; later = later_by d.mode d.at; place = d.at }
 
 -- how many bytes a decoder may still give at most for the raw bytes that it has taken: those that wait, and what is held back
 unfoldable pub backlog : Decoder → ℕ
-backlog d = length (waiting d.ready) + backlog_by d.mode
+backlog d = length (items d.ready) + backlog_by d.mode
 
 -- all that is still to be given, if these raw bytes come and then that end
 abbrev pub outlook : Meaning → (raw : Bytes) → End → Decoded

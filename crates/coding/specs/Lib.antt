@@ -3,8 +3,8 @@ pub mod Base64
 pub mod Base64Laws
 pub mod Quoted
 pub mod QuotedLaws
-pub mod Waiting
-pub mod Flowing
+pub mod Buffers
+pub mod Flaws
 pub mod Sextets
 pub mod QuotedShapes
 pub mod QuotedHeld

@@ -7,13 +7,14 @@ use Rattle.coding.specs.declared.decoder.Mode.TheVariants.{Plain, Base64, Quoted
 use Rattle.coding.specs.Decoding.{Decoded, gives}
 use Rattle.coding.specs.Base64.{base64_from}
 use Rattle.coding.specs.Sextets.{sextets_of}
-use Rattle.coding.specs.QuotedHeld.{held_bytes, quoted_from}
+use Rattle.coding.specs.Buffers.{items}
+use Rattle.coding.specs.QuotedHeld.{quoted_from}
 
 -- what the raw bytes from the offset `at` on give, by the end behind them
 abbrev pub later_by : Mode → (at : ℕ) → (raw : Bytes) → End → Decoded
 later_by Plain at raw e = gives raw e
 later_by (Base64 d) at raw e = base64_from (sextets_of d.held) at raw e
-later_by (Quoted d) at raw e = quoted_from (held_bytes d) at raw e
+later_by (Quoted d) at raw e = quoted_from (items d.held) at raw e
 later_by Spent at raw e = gives [] e
 later_by (Ended x) at raw e = gives [] x
 
@@ -21,7 +22,7 @@ later_by (Ended x) at raw e = gives [] x
 abbrev pub held_by : Mode → ℕ
 held_by Plain = 0
 held_by (Base64 d) = 0
-held_by (Quoted d) = length (held_bytes d)
+held_by (Quoted d) = length (items d.held)
 held_by Spent = 0
 held_by (Ended x) = 0
 
@@ -29,6 +30,6 @@ held_by (Ended x) = 0
 abbrev pub backlog_by : Mode → ℕ
 backlog_by Plain = 0
 backlog_by (Base64 d) = length (sextets_of d.held)
-backlog_by (Quoted d) = length (held_bytes d)
+backlog_by (Quoted d) = length (items d.held)
 backlog_by Spent = 0
 backlog_by (Ended x) = 0

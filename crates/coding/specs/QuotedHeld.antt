@@ -1,14 +1,9 @@
 -- A quoted-printable decoder that stands within a line. Assumes nothing.
-use Rattle.std.specs.Prelude.{ℕ, ◌-◌, ◌++◌, length, take, ◌≢◌}
+use Rattle.std.specs.Prelude.{ℕ, ◌-◌, ◌++◌, length, ◌≢◌}
 use Rattle.byte_lines.specs.Bytes.{Bytes}
 use Rattle.source.specs.declared.ends.End.{End}
-use Rattle.coding.specs.declared.quoted.Quoted.{Quoted}
 use Rattle.coding.specs.Decoding.{Decoded}
 use Rattle.coding.specs.Quoted.{quoted}
-
--- the raw bytes that are held back
-abbrev pub held_bytes : Quoted → Bytes
-held_bytes q = take q.len q.held
 
 -- what comes of raw bytes from the offset `at` on, behind those that are held back
 abbrev pub quoted_from : (held : Bytes) (at : ℕ) (raw : Bytes) → End → Decoded

@@ -4,8 +4,6 @@ ghost use Rattle.coding.specs.Sextets.{six_bits};
 mod groups;
 mod steps;
 
-pub(crate) use groups::run;
-
 /// The characters that wait for a fourth, by what they stand for.
 #[derive(Clone, Copy)]
 pub(crate) enum Sextets {
@@ -15,7 +13,7 @@ pub(crate) enum Sextets {
     Three(u8, u8, u8),
 }
 
-/// A base64 decoder that is fed one raw byte at a time.
+/// Base64, behind characters that wait.
 #[derive(Clone, Copy)]
 pub(crate) struct Base64 {
     held: Sextets,

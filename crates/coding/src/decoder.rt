@@ -2,8 +2,8 @@ ghost use Rattle.std.specs.Prelude.{◌≤◌};
 ghost use Rattle.coding.specs.Modes.{held_by};
 
 use crate::base64::Base64;
+use crate::coder::Ready;
 use crate::quoted::Quoted;
-use crate::ready::Ready;
 use source::End;
 
 mod feeds;
@@ -38,3 +38,7 @@ pub struct Decoder {
     mode: Mode,
     ghost behind: { held_by mode ≤ at },
 }
+
+/// The end of a body is refused, since a decoded byte still waits to be given.
+#[derive(Clone, Copy, PartialEq, Eq, Debug)]
+pub struct StillReady;

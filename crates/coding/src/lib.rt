@@ -2,13 +2,14 @@
 #![tactic(auto)]
 
 mod base64;
+mod buffer;
+mod coder;
 mod decoder;
 mod fed;
-mod flow;
+mod flaw;
 mod laws;
 mod quoted;
-mod ready;
 
-pub use decoder::{Coding, Decoder};
+pub use decoder::{Coding, Decoder, StillReady};
 pub use fed::Fed;
 pub use laws::{base64_laws, quoted_laws};

@@ -1,5 +1,8 @@
-ghost use Rattle.std.specs.Prelude.{◌≡◌, ◌≤◌, true, length, take};
+ghost use Rattle.std.specs.Prelude.{◌≡◌, true};
+ghost use Rattle.coding.specs.Buffers.{items};
 ghost use Rattle.coding.specs.QuotedShapes.{shaped};
+
+use crate::buffer::Buffer;
 
 mod runs;
 mod steps;
@@ -24,22 +27,20 @@ pub(crate) enum Kind {
 /// What stands first in raw bytes behind which nothing is held back.
 #[derive(Clone, Copy)]
 pub(crate) enum Token {
+    /// A byte that stands for itself.
+    Itself,
     /// An `=` and two hexadecimal digits: this byte.
     Byte(u8),
     /// An `=` and a CRLF.
     Soft,
     /// A CRLF.
     Hard,
-    Other,
 }
 
-/// A quoted-printable decoder: the raw bytes of a line that are not decided yet.
+/// Quoted-printable, behind the raw bytes of a line that are not decided yet.
 #[derive(Clone, Copy)]
 pub(crate) struct Quoted {
-    held: [u8; MOST_HELD],
-    len: usize,
+    held: Buffer<MOST_HELD>,
     kind: Kind,
-    ghost whole: { length held ≡ 78 },
-    ghost within: { len ≤ 78 },
-    ghost shape: { shaped kind (take len held) ≡ true },
+    ghost shape: { shaped kind (items held) ≡ true },
 }

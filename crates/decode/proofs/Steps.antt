@@ -1,56 +1,85 @@
--- What a feed and an end leave of a whole body.
-use Rattle.std.proofs.Common.{◌≡◌, ℕ, ◌+◌, ◌-◌, ◌≤◌, Bool, true, false, not, eqb, [], ◌++◌, length, take, drop, sym, ap, ◌∙◌, arith, take-add}
+-- What feeds leave of a body and a buffer.
+use Rattle.std.proofs.Common.{◌≡◌, ℕ, ◌+◌, ◌-◌, ◌<◌, ◌≤◌, ◌⊎◌, inl, inr, [], ◌∷◌, ◌++◌, length, take, drop, refl, sym, ap, ◌∙◌, arith, take-add}
 use borrow.Rule.Slice.PartMut.{put_mid, post_of}
-use Rattle.std.proofs.lemmas.List.{append-nil, length-take-le, length-drop, take_at, drop_at, take_rest, take-append-le, drop-drop, drop_all}
+use Rattle.std.proofs.lemmas.List.{append-nil, length-append, length-take-le, length-drop, drop_at, take_rest, drop-drop, drop_all}
+use Rattle.std.proofs.lemmas.Slice.{take-put_mid_below}
 use Rattle.byte_lines.specs.Bytes.{Bytes}
+use Rattle.source.specs.declared.ends.End.{End}
 use Rattle.source.specs.declared.ends.End.TheVariants.{Clean}
 use Rattle.coding.specs.Decoding.{Decoded, prefixed}
-use Rattle.coding.specs.Decoders.{Meaning, outlook, Feeds, Finishes}
-use Rattle.coding.proofs.Feeding.{prefixed-append, none-ready}
-use Rattle.decode.specs.Wholes.{FedAt}
+use Rattle.coding.specs.Decoders.{limit, Meaning, outlook, Feeds}
+use Rattle.coding.proofs.Feeding.{prefixed-append}
 
--- a front and so many more
-take_past : (p q : Bytes) (n k : ℕ) → length p ≡ n → take (n + k) (p ++ q) ≡ p ++ take k q
-take_past p q n k l = take-add n k (p ++ q) ∙ ap (λ (t : Bytes). t ++ take k (drop n (p ++ q))) (take_at p q n l) ∙ ap (λ (t : Bytes). p ++ take k t) (drop_at p q n l)
+-- so far `from` raw bytes are taken and `to` bytes given, and the buffer behind these is as it was
+pub record SoFar (m0 m : Meaning) (raw : Bytes) (from : ℕ) (out out' : Bytes) (to : ℕ) : Type 0 where
+  pub took : from ≤ length raw
+  pub gave : to ≤ length out
+  pub place : m.place ≡ m0.place + from
+  pub kept : drop to out' ≡ drop to out
+  pub whole : (q : Bytes) (e : End) → outlook m0 (raw ++ q) e ≡ prefixed (take to out') (outlook m (drop from raw ++ q) e)
 
-pub fed_at : (m m' : Meaning) (raw : Bytes) (from : ℕ) (out s : Bytes) (to taken given : ℕ) → from ≤ length raw → to ≤ length out
-    → length s ≡ length (take (length out - to) (drop to out))
-    → Feeds m (take (length raw - from) (drop from raw)) (take (length out - to) (drop to out)) taken given m' s
-    → FedAt m m' raw from out (put_mid to (length out - to) out s) to taken given
-fed_at m m' raw from out s to taken given a b l f =
-    let r = take_rest raw from in
-    let o = take_rest out to in
-    let lr : length (take (length raw - from) (drop from raw)) ≡ length raw - from = ap length r ∙ length-drop from raw in
-    let lo : length (take (length out - to) (drop to out)) ≡ length out - to = ap length o ∙ length-drop to out in
-    let lt = length-take-le to out b in
-    let left : (t : Bytes) → drop taken t ++ [] ≡ drop taken t = λ t. append-nil (drop taken t) in
+-- a part up to a buffer's end, once it is back
+part_back : (to : ℕ) (out s : Bytes) → to ≤ length out → drop to (put_mid to (length out - to) out s) ≡ s
+part_back to out s h =
+    drop_at (take to out) (s ++ post_of to (length out - to) out) to (length-take-le to out h)
+    ∙ ap (λ (t : Bytes). s ++ t) (drop_all (length out - to) (drop to out) (omega (arith, length-drop to out))) ∙ append-nil s
+
+pub fed : {m0 m m' : Meaning} {raw out out1 s : Bytes} {from to taken given : ℕ} → SoFar m0 m raw from out out1 to → length out1 ≡ length out
+    → length s ≡ length (take (length out1 - to) (drop to out1))
+    → Feeds m (take (length raw - from) (drop from raw)) (take (length out1 - to) (drop to out1)) taken given m' s
+    → SoFar m0 m' raw (from + taken) out (put_mid to (length out1 - to) out1 s) (to + given)
+fed {m0} {m} {m'} {raw} {out} {out1} {s} {from} {to} {taken} {given} r same size f =
+    let rest = take_rest raw from in
+    let room = take_rest out1 to in
+    let lr = ap length rest ∙ length-drop from raw in
+    let lo = ap length room ∙ length-drop to out1 in
+    let out2 = put_mid to (length out1 - to) out1 s in
+    let g = r.gave in
+    let k = r.took in
+    let t = f.took in
+    let h = f.gave in
+    let before : take to out2 ≡ take to out1 = take-put_mid_below to (length out1 - to) out1 s to (omega arith) (omega arith) in
+    let back = part_back to out1 s (omega arith) in
+    let fresh = take given (drop to out2) in
     record {
-      took = omega (arith, f.took);
-      gave = omega (arith, f.gave);
-      given_bytes = take given s;
-      front =
-          take_past (take to out) (s ++ post_of to (length out - to) out) to given lt
-          ∙ ap (λ (t : Bytes). take to out ++ t) (take-append-le given s (post_of to (length out - to) out) (omega (arith, f.gave)));
-      whole =
-          ap (λ (t : Bytes). outlook m t Clean) (sym r ∙ sym (append-nil (take (length raw - from) (drop from raw)))) ∙ f.whole [] Clean
-          ∙ ap (λ (t : Bytes). prefixed (take given s) (outlook m' t Clean)) (left (take (length raw - from) (drop from raw)) ∙ ap (drop taken) r ∙ drop-drop taken from raw);
+      took = omega arith;
+      gave = omega arith;
+      place = let p = r.place in let v = f.moved in omega arith;
+      kept = sym (drop-drop given to out2) ∙ ap (drop given) back ∙ f.kept ∙ ap (drop given) (room ∙ r.kept) ∙ drop-drop given to out;
+      whole = λ q e.
+          let later = outlook m' (drop (from + taken) raw ++ q) e in
+          r.whole q e ∙ ap (λ (t : Bytes). prefixed (take to out1) (outlook m (t ++ q) e)) (sym rest) ∙ ap (prefixed (take to out1)) (f.whole q e)
+          ∙ ap (λ (t : Bytes). prefixed (take to out1) (prefixed (take given s) (outlook m' (t ++ q) e))) (ap (drop taken) rest ∙ drop-drop taken from raw)
+          ∙ ap (λ (t : Bytes). prefixed (take to out1) (prefixed (take given t) later)) (sym back)
+          ∙ prefixed-append (take to out1) fresh later
+          ∙ ap (λ (t : Bytes). prefixed t later) (sym (take-add to given out2 ∙ ap (λ (t : Bytes). t ++ fresh) before));
     }
 
--- what stands in the buffer and what is to come are the whole
-abbrev pub WholeAt : (m : Meaning) (raw : Bytes) (from : ℕ) (out : Bytes) (to : ℕ) → Decoded → Type 0
-WholeAt m raw from out to d = prefixed (take to out) (outlook m (drop from raw) Clean) ≡ d
+-- there is room for what waits
+ready_room : {m0 m : Meaning} {raw out out' : Bytes} {from to : ℕ} → SoFar m0 m raw from out out' to → length out' ≡ length out
+    → length (outlook m0 raw Clean).bytes ≤ length out → to + length m.ready ≤ length out
+ready_room {m0} {m} {raw} {out} {out'} {from} {to} r same room =
+    let later = (m.later (drop from raw ++ []) Clean).bytes in
+    let g = r.gave in
+    let first = length-take-le to out' (omega arith) in
+    let all = ap (λ (t : Bytes). length (outlook m0 t Clean).bytes) (sym (append-nil raw)) ∙ ap (λ (d : Decoded). length d.bytes) (r.whole [] Clean) in
+    omega (arith, length-append (take to out') (m.ready ++ later), length-append m.ready later)
 
-pub whole_fed : (m m' : Meaning) (raw : Bytes) (from : ℕ) (out out' : Bytes) (to taken given : ℕ) (d : Decoded) → WholeAt m raw from out to d
-    → FedAt m m' raw from out out' to taken given → WholeAt m' raw (from + taken) out' (to + given) d
-whole_fed m m' raw from out out' to taken given d w f =
-    let rest = outlook m' (drop (from + taken) raw) Clean in
-    ap (λ (t : Bytes). prefixed t rest) f.front ∙ sym (prefixed-append (take to out) f.given_bytes rest) ∙ ap (prefixed (take to out)) (sym f.whole) ∙ w
-
-ended_same : (t : Bool) (m m' : Meaning) (raw : Bytes) (from : ℕ) → m.ready ≡ [] → length raw ≤ from → Finishes t m Clean m' → outlook m' (drop from raw) Clean ≡ outlook m (drop from raw) Clean
-ended_same true m m' raw from none le f =
-    f.1 (drop from raw) Clean ∙ ap (λ (t : Bytes). prefixed t (m.later [] Clean)) (sym none) ∙ ap (λ (t : Bytes). outlook m t Clean) (sym (drop_all from raw le))
-ended_same false m m' raw from none le f = ap (λ (k : Meaning). outlook k (drop from raw) Clean) f.1
-
-pub whole-ended : (t r : Bool) (m m' : Meaning) (raw : Bytes) (from : ℕ) (out : Bytes) (to : ℕ) (d : Decoded) → r ≡ not (eqb (length m.ready) 0) → r ≡ false → length raw ≤ from
-    → Finishes t m Clean m' → WholeAt m raw from out to d → WholeAt m' raw from out to d
-whole-ended t r m m' raw from out to d e h le f w = ap (prefixed (take to out)) (ended_same t m m' raw from (none-ready r m.ready e h) le f) ∙ w
+-- while a raw byte is left or a decoded byte waits, a feed takes or gives one
+pub moves : {m0 m m' : Meaning} {raw out out1 s : Bytes} {from to taken given : ℕ} → SoFar m0 m raw from out out1 to → length out1 ≡ length out
+    → length raw ≤ limit - m0.place → length (outlook m0 raw Clean).bytes ≤ length out
+    → Feeds m (take (length raw - from) (drop from raw)) (take (length out1 - to) (drop to out1)) taken given m' s
+    → (from < length raw) ⊎ (0 < length m.ready) → 0 < taken + given
+moves {m0} {m} {m'} {raw} {out} {out1} {s} {from} {to} {taken} {given} r same short room f left = go m.ready refl left
+  where
+    go : (w : Bytes) → m.ready ≡ w → (from < length raw) ⊎ (0 < length m.ready) → 0 < taken + given
+    go [] e (inl x) =
+        let p = r.place in
+        let t = f.goes e (omega (arith, ap length (take_rest raw from), length-drop from raw)) (omega arith) in
+        omega arith
+    go [] e (inr x) = absurd (omega (arith, ap length e))
+    go (b ∷ bs) e x =
+        let n = ap length e in
+        let h = ready_room r same room in
+        let w = f.waits (omega arith) in
+        omega (arith, w.1, ap length (take_rest out1 to), length-drop to out1)

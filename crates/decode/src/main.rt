@@ -32,7 +32,7 @@ fn run(rt: &HostRuntime) -> anyhow::Result<()> {
     if options.time {
         return time(rt, &options, raw.as_slice(), out.as_mut_slice());
     }
-    let Some((len, end)) = decode_whole(options.coding, raw.as_slice(), out.as_mut_slice()) else {
+    let Ok((len, end)) = decode_whole(options.coding, raw.as_slice(), out.as_mut_slice()) else {
         return Err(anyhow!("a body of more than 16777216 bytes"));
     };
     let decoded = out.as_slice();
@@ -67,7 +67,7 @@ fn time(rt: &HostRuntime, options: &Options, raw: &[u8], out: &mut [u8]) -> anyh
     let mut given = 0;
     for _ in 0..8 {
         let start = Instant::now(rt)?;
-        if let Some((len, _end)) = decode_whole(options.coding, raw, out) {
+        if let Ok((len, _end)) = decode_whole(options.coding, raw, out) {
             given = len;
         }
         best = best.min(start.elapsed(rt)?.as_nanos());

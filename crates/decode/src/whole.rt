@@ -1,44 +1,69 @@
-ghost use Rattle.std.specs.Prelude.{◌≡◌, ◌+◌, ◌≤◌, ◌++◌, length, take, Some, None};
+ghost use Rattle.std.specs.Prelude.{◌≡◌, ℕ, ◌-◌, ◌≤◌, [], ◌++◌, length, take, drop};
+ghost use Rattle.byte_lines.specs.Bytes.{Bytes};
+ghost use Rattle.source.specs.declared.ends.End.{End as Ending};
 ghost use Rattle.source.specs.declared.ends.End.TheVariants.{Clean};
 ghost use Rattle.coding.specs.Codings.{decoded};
-ghost use Rattle.coding.specs.Decoding.{gives, prefixed};
-ghost use Rattle.coding.specs.Decoders.{meaning, outlook};
-ghost use Rattle.decode.specs.Wholes.{FedAt};
+ghost use Rattle.coding.specs.Decoding.{prefixed};
+ghost use Rattle.coding.specs.Decoders.{limit, meaning, outlook};
+ghost use Rattle.decode.specs.Wholes.{put, wholly};
 
-use coding::{Coding, Decoder, Fed};
+use coding::{Coding, Decoder};
 use source::End;
 
-/// A feed of the raw bytes from one index on, into the buffer from another on.
-fn feed_at(decoder: &mut Decoder, raw: &[u8], from: usize, out: &mut [u8], to: usize) -> Fed
-    requires raw_within { from ≤ length raw.now }
-    requires out_within { to ≤ length out.old }
-    ensures { FedAt (meaning decoder.old) (meaning decoder.new) raw.now from out.old out.new to result.taken result.given }
-{
-    decoder.feed(&raw[from..], &mut out[to..])
+/// No input is longer.
+const LONGEST: usize = 16_777_216;
+
+/// Why a body is not decoded.
+#[derive(Clone, Copy, PartialEq, Eq, Debug)]
+pub enum Unfit {
+    /// It is longer than an input.
+    TooLong,
+    /// It is longer than the buffer.
+    NoRoom,
 }
 
-/// Decodes a whole body into a buffer: how many bytes it gives, and its end. None where the buffer is too short, or the body
-/// longer than an input.
-pub fn decode_whole(coding: Coding, raw: &[u8], out: &mut [u8]) -> Option<(usize, End)>
-    ensures { elim result [ Some p ↦ gives (take p.0 out.new) p.1 ≡ decoded coding 0 raw.now Clean | None ↦ Unit {0} ] }
+/// Feeds a raw body to a decoder until nothing waits: how many bytes stand at the buffer's start then.
+fn feed_all(decoder: &mut Decoder, raw: &[u8], out: &mut [u8]) -> usize
+    requires short { length raw.now ≤ limit - (meaning decoder.old).place }
+    requires room { length (outlook (meaning decoder.old) raw.now Clean).bytes ≤ length out.old }
+    ensures gave { result ≤ length out.old }
+    ensures kept { drop result out.new ≡ drop result out.old }
+    ensures none { (meaning decoder.new).ready ≡ [] }
+    ensures whole { (q : Bytes) (e : Ending) → outlook (meaning decoder.old) (raw.now ++ q) e ≡ prefixed (take result out.new) (outlook (meaning decoder.new) q e) }
 {
-    let mut decoder = Decoder::new(coding, 0);
     let mut from = 0;
     let mut to = 0;
-    for _ in 0..u64::MAX {
-        if from == raw.len() && !decoder.is_ready() {
-            if let Some(end) = decoder.outcome() {
-                return Some((to, end));
-            }
-            decoder.finish(End::Clean);
-            continue;
-        }
-        let fed = feed_at(&mut decoder, raw, from, out, to);
-        if fed.taken == 0 && fed.given == 0 {
-            return None;
-        }
+    while from < raw.len() || decoder.is_ready() {
+        let fed = decoder.feed(&raw[from..], &mut out[to..]);
         from += fed.taken;
         to += fed.given;
     }
-    None
+    to
+}
+
+/// Decodes a body that fits: how many bytes it gives, and its end.
+fn decode_fitting(coding: Coding, raw: &[u8], out: &mut [u8]) -> (usize, End)
+    requires short { length raw.now ≤ limit }
+    requires room { length raw.now ≤ length out.old }
+    ensures { (result, out.new) ≡ put (decoded coding 0 raw.now Clean) out.old }
+{
+    let mut decoder = Decoder::new(coding, 0);
+    let given = feed_all(&mut decoder, raw, out);
+    let _ = decoder.finish(End::Clean);
+    let more = feed_all(&mut decoder, &[], &mut out[given..]);
+    (given + more, decoder.outcome().unwrap())
+}
+
+/// Decodes a whole body into a buffer: how many bytes it gives, and its end. The buffer behind these is as it was, and all of it where
+/// the body is refused.
+pub fn decode_whole(coding: Coding, raw: &[u8], out: &mut [u8]) -> Result<(usize, End), Unfit>
+    ensures { (result, out.new) ≡ wholly coding raw.now out.old }
+{
+    if raw.len() > LONGEST {
+        return Err(Unfit::TooLong);
+    }
+    if raw.len() > out.len() {
+        return Err(Unfit::NoRoom);
+    }
+    Ok(decode_fitting(coding, raw, out))
 }

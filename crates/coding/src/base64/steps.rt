@@ -1,54 +1,14 @@
-ghost use Rattle.std.specs.Prelude.{◌≡◌, ◌+◌, ◌%◌, ◌≤◌, true, [], ◌∷◌, length, ◌==◌};
-ghost use Rattle.std.specs.List.{flat_map};
-ghost use Rattle.byte_lines.specs.Bytes.{Bytes};
-ghost use Rattle.source.specs.declared.ends.End.{End};
-ghost use Rattle.source.specs.declared.ends.End.TheVariants.{Faulty};
-ghost use Rattle.source.specs.Meanings.{fault};
-ghost use Rattle.coding.specs.Decoding.{gives, prefixed};
-ghost use Rattle.coding.specs.Base64.{bits, octets, base64_from};
-ghost use Rattle.coding.specs.Flowing.{flowing, still_held};
-ghost use Rattle.coding.specs.Waiting.{waiting};
-ghost use Rattle.coding.specs.Sextets.{sextets_of, six_bits};
+ghost use Rattle.std.specs.Prelude.{◌≡◌, [], length};
+ghost use Rattle.coding.specs.Base64.{base64_from};
+ghost use Rattle.coding.specs.Sextets.{sextets_of, Closes};
 
-use crate::base64::groups::{bytes_of, sextet_of};
+use crate::base64::groups::{bytes_of, group, is_ignored, sextet_of};
 use crate::base64::{Base64, Sextets};
-use crate::flow::Flow;
-use crate::ready::Ready;
-use source::{End, Fault};
-
-/// A character is left over where the body ends.
-fn left_over(at: u32) -> End
-    ensures { result ≡ Faulty (fault 51 5 at) }
-{
-    End::Faulty(Fault {
-        number: 51,
-        layer: 5,
-        place: at,
-    })
-}
-
-/// Gives the whole bytes of the characters that are held, and tells whether one character is left over.
-fn close(held: Sextets, ready: &mut Ready) -> bool
-    requires small { six_bits held ≡ true }
-    requires empty { waiting ready.old ≡ [] }
-    requires start { ready.old.to ≡ 0 }
-    ensures over { result ≡ (length (sextets_of held) % 4 == 1) }
-    ensures given { waiting ready.new ≡ octets (flat_map bits (sextets_of held)) }
-{
-    match held {
-        Sextets::None => false,
-        Sextets::One(_) => true,
-        Sextets::Two(a, b) => {
-            ready.push(a * 4 + b / 16);
-            false
-        }
-        Sextets::Three(a, b, c) => {
-            ready.push(a * 4 + b / 16);
-            ready.push(b % 16 * 16 + c / 4);
-            false
-        }
-    }
-}
+use crate::coder::{Coder, Ready};
+use crate::decoder::Mode;
+use crate::fed::Fed;
+use crate::flaw::Flaw;
+use source::End;
 
 impl Base64 {
     pub(crate) fn new() -> Self
@@ -59,60 +19,83 @@ impl Base64 {
         }
     }
 
-    /// No character waits for others.
-    pub(crate) fn is_between(&self) -> bool
-        ensures { result ≡ (length (sextets_of self.now.held) == 0) }
+    /// The whole bytes of the characters that are held; None if one character is left over.
+    fn close(&self) -> Option<Ready>
+        ensures { Closes (sextets_of self.now.held) result }
     {
         match self.held {
-            Sextets::None => true,
-            _ => false,
+            Sextets::None => Some(Ready::new()),
+            Sextets::One(_) => None,
+            Sextets::Two(a, b) => Some(Ready::of(&bytes_of(a, b, 0, 0)[..1])),
+            Sextets::Three(a, b, c) => Some(Ready::of(&bytes_of(a, b, c, 0)[..2])),
+        }
+    }
+}
+
+impl Coder for Base64 {
+    ghost later = { λ d. base64_from (sextets_of d.held) };
+
+    ghost held = { λ d. 0 };
+
+    ghost backlog = { λ d. length (sextets_of d.held) };
+
+    /// By leading groups of four characters, and what is ignored between them, as far as there is room for three bytes more.
+    #[inline(never)]
+    fn run(&self, raw: &[u8], out: &mut [u8]) -> Fed {
+        if !matches!(self.held, Sextets::None) {
+            return Fed { taken: 0, given: 0 };
+        }
+        let mut rest = raw;
+        let mut given = 0;
+        while out.len() - given >= 3 {
+            let [a, b, c, d, behind @ ..] = rest else {
+                break;
+            };
+            if let Some(three) = group(*a, *b, *c, *d) {
+                out[given..given + 3].copy_from_slice(&three);
+                given += 3;
+                rest = behind;
+            } else if is_ignored(*a) {
+                rest = &rest[1..];
+            } else {
+                break;
+            }
+        }
+        Fed {
+            taken: raw.len() - rest.len(),
+            given,
         }
     }
 
-    /// Takes the raw byte at the offset `at`.
-    pub(crate) fn step(&mut self, at: u32, b: u8, ready: &mut Ready) -> Flow
-        requires empty { waiting ready.old ≡ [] }
-        requires start { ready.old.to ≡ 0 }
-        ensures decoded { (q : Bytes) (e : End) → base64_from (sextets_of self.old.held) at (b ∷ q) e ≡ prefixed (waiting ready.new) (flowing result (base64_from (sextets_of self.new.held) (at + 1)) q e) }
-        ensures fewer { length (waiting ready.new) + still_held result (length (sextets_of self.new.held)) ≤ length (sextets_of self.old.held) + 1 }
-    {
+    #[tactic(auto, using(crate::proofs::Base64Steps::step_equals, crate::proofs::Base64Steps::from_ignored, crate::proofs::Base64Steps::from_character, crate::proofs::Base64Steps::from_fourth, crate::proofs::Base64Steps::octets_fewer))]
+    fn step(self, at: u32, b: u8) -> (Mode, Ready) {
         let Some(v) = sextet_of(b) else {
-            if b != b'=' {
-                return Flow::On;
-            }
-            return if close(self.held, ready) {
-                Flow::Ended(left_over(at))
-            } else {
-                Flow::Spent
+            return match (b, self.close()) {
+                (b'=', Some(ready)) => (Mode::Spent, ready),
+                (b'=', None) => (Mode::Ended(Flaw::LeftOver.at(at)), Ready::new()),
+                _ => (Mode::Base64(self), Ready::new()),
             };
         };
-        match self.held {
-            Sextets::None => self.held = Sextets::One(v),
-            Sextets::One(x) => self.held = Sextets::Two(x, v),
-            Sextets::Two(x, y) => self.held = Sextets::Three(x, y, v),
+        let held = match self.held {
+            Sextets::None => Sextets::One(v),
+            Sextets::One(x) => Sextets::Two(x, v),
+            Sextets::Two(x, y) => Sextets::Three(x, y, v),
             Sextets::Three(x, y, z) => {
-                let (first, second, third) = bytes_of(x, y, z, v);
-                ready.push(first);
-                ready.push(second);
-                ready.push(third);
-                self.held = Sextets::None;
+                return (
+                    Mode::Base64(Base64::new()),
+                    Ready::of(&bytes_of(x, y, z, v)),
+                );
             }
-        }
-        Flow::On
+        };
+        (Mode::Base64(Base64 { held }), Ready::new())
     }
 
-    /// The raw body ends at the offset `at`.
-    pub(crate) fn finish(&mut self, at: u32, end: End, ready: &mut Ready) -> End
-        requires empty { waiting ready.old ≡ [] }
-        requires start { ready.old.to ≡ 0 }
-        ensures { base64_from (sextets_of self.old.held) at [] end ≡ gives (waiting ready.new) result }
-    {
-        if !close(self.held, ready) {
-            return end;
-        }
-        match end {
-            End::Clean => left_over(at),
-            End::Faulty(_) => end,
+    #[tactic(auto, using(crate::proofs::Base64Steps::from_end))]
+    fn finish(self, at: u32, end: End) -> (End, Ready) {
+        match (self.close(), end) {
+            (Some(ready), _) => (end, ready),
+            (None, End::Clean) => (Flaw::LeftOver.at(at), Ready::new()),
+            (None, End::Faulty(_)) => (end, Ready::new()),
         }
     }
 }

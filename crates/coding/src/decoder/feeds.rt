@@ -1,12 +1,12 @@
-ghost use Rattle.std.specs.Prelude.{◌≡◌, ◌+◌, ◌≤◌, not, [], length, ◌==◌};
+ghost use Rattle.std.specs.Prelude.{◌≡◌, ◌+◌, ◌≤◌, not, [], length, is_ok, ◌==◌};
 ghost use Rattle.byte_lines.specs.Bytes.{Bytes};
 ghost use Rattle.source.specs.declared.ends.End.{End as Ending};
 ghost use Rattle.coding.specs.Codings.{decoded};
 ghost use Rattle.coding.specs.Decoders.{meaning, backlog, Feeds, Finishes, Releases, Outcome};
 
-use crate::decoder::{Coding, Decoder, Mode, modes};
+use crate::coder::{Coder, Ready};
+use crate::decoder::{Coding, Decoder, Mode, StillReady};
 use crate::fed::Fed;
-use crate::ready::Ready;
 use source::End;
 
 /// The input has no byte at this offset or past it.
@@ -14,6 +14,7 @@ const LIMIT: u32 = 16_777_216;
 
 impl Decoder {
     /// For a raw body that begins at the offset `at`.
+    #[tactic(auto, unfolding(crate::specs::Decoders::backlog))]
     pub fn new(coding: Coding, at: u32) -> Self
         ensures ready { (meaning result).ready ≡ [] }
         ensures place { (meaning result).place ≡ at }
@@ -23,7 +24,7 @@ impl Decoder {
         Decoder {
             ready: Ready::new(),
             at,
-            mode: modes::start(coding),
+            mode: Mode::start(coding),
         }
     }
 
@@ -35,6 +36,7 @@ impl Decoder {
     }
 
     /// Gives what waits; or takes raw bytes, at least one if there is one, and gives what they set free or lets it wait.
+    #[tactic(auto, unfolding(crate::specs::Decoders::backlog))]
     pub fn feed(&mut self, raw: &[u8], out: &mut [u8]) -> Fed
         ensures feeds { Feeds (meaning self.old) raw.now out.old result.taken result.given (meaning self.new) out.new }
         ensures fewer { result.given + backlog self.new ≤ backlog self.old + result.taken }
@@ -47,30 +49,32 @@ impl Decoder {
         if most == 0 {
             return Fed { taken: 0, given: 0 };
         }
-        let fed = modes::run(&self.mode, &raw[0..most], out);
+        let fed = self.mode.run(&raw[..most], out);
         if fed.taken > 0 {
             self.at += fed.taken as u32;
             return fed;
         }
-        self.ready.reset();
-        self.mode = modes::step(self.mode, self.at, raw[0], &mut self.ready);
+        let (mode, ready) = self.mode.step(self.at, raw[0]);
+        self.mode = mode;
+        self.ready = ready;
         self.at += 1;
         Fed { taken: 1, given: 0 }
     }
 
     /// The raw body has ended here, with that end. Refuses, and changes nothing, while a decoded byte waits.
-    pub fn finish(&mut self, end: End) -> bool
-        ensures finishes { Finishes result (meaning self.old) end (meaning self.new) }
-        ensures releases { Releases result (meaning self.old) end (meaning self.new) }
+    #[tactic(auto, unfolding(crate::specs::Decoders::backlog))]
+    pub fn finish(&mut self, end: End) -> Result<(), StillReady>
+        ensures finishes { Finishes (is_ok result) (meaning self.old) end (meaning self.new) }
+        ensures releases { Releases (is_ok result) (meaning self.old) end (meaning self.new) }
         ensures fewer { backlog self.new ≤ backlog self.old }
     {
         if self.is_ready() {
-            return false;
+            return Err(StillReady);
         }
-        self.ready.reset();
-        let end = modes::finish(self.mode, self.at, end, &mut self.ready);
+        let (end, ready) = self.mode.finish(self.at, end);
         self.mode = Mode::Ended(end);
-        true
+        self.ready = ready;
+        Ok(())
     }
 
     /// The decoded body's end, once nothing more is to be given, whatever comes.

@@ -1,153 +1,145 @@
-ghost use Rattle.std.specs.Prelude.{◌≡◌, ℕ, ◌+◌, ◌-◌, ◌≤◌, true, [], ◌∷◌, ◌++◌, length, is_some, Some, ◌==◌};
-ghost use Rattle.byte_lines.specs.Bytes.{Bytes};
-ghost use Rattle.byte_lines.specs.Classes.{hex};
-ghost use Rattle.source.specs.declared.ends.End.{End};
-ghost use Rattle.source.specs.declared.ends.End.TheVariants.{Faulty};
-ghost use Rattle.source.specs.Meanings.{fault};
-ghost use Rattle.coding.specs.declared.flow.Flow.TheVariants.{Ended};
-ghost use Rattle.coding.specs.Decoding.{gives, prefixed};
-ghost use Rattle.coding.specs.Flowing.{flowing, still_held};
-ghost use Rattle.coding.specs.Waiting.{waiting};
-ghost use Rattle.coding.specs.Quoted.{byte_of};
+ghost use Rattle.std.specs.Prelude.{◌≡◌, true, [], ◌∷◌, ◌++◌, length};
+ghost use Rattle.coding.specs.Buffers.{items};
 ghost use Rattle.coding.specs.QuotedShapes.{shaped};
-ghost use Rattle.coding.specs.QuotedHeld.{held_bytes, quoted_from};
+ghost use Rattle.coding.specs.QuotedHeld.{quoted_from};
 
-use crate::flow::Flow;
-use crate::quoted::{Kind, MOST_BLANKS, MOST_HELD, Quoted};
-use crate::ready::Ready;
-use byte_lines::hex_value;
-use source::{End, Fault};
+use crate::buffer::Buffer;
+use crate::coder::{Coder, Ready};
+use crate::decoder::Mode;
+use crate::fed::Fed;
+use crate::flaw::Flaw;
+use crate::quoted::runs::{escaped, token};
+use crate::quoted::{Kind, MOST_BLANKS, Quoted, Token};
+use source::End;
 
 impl Quoted {
+    /// Nothing is held back.
     pub(crate) fn new() -> Self
-        ensures { held_bytes result ≡ [] }
+        ensures { items result.held ≡ [] }
     {
         Quoted {
-            held: [0; MOST_HELD],
-            len: 0,
+            held: Buffer::new(),
             kind: Kind::Blanks { soft: false },
         }
     }
 
-    /// Nothing is held back.
-    pub(crate) fn is_between(&self) -> bool
-        ensures { result ≡ (length (held_bytes self.now) == 0) }
+    /// Holds one more byte back, so that what is held is of this kind.
+    fn hold(mut self, b: u8, kind: Kind) -> Self
+        requires { shaped kind (items self.held ++ (b ∷ [])) ≡ true }
+        ensures { items result.held ≡ items self.held ++ (b ∷ []) }
     {
-        self.len == 0
+        self.held.push(b);
+        self.kind = kind;
+        self
     }
 
-    /// Takes the raw byte `b`, which stands at the offset `at`.
-    pub(crate) fn step(&mut self, at: u32, b: u8, ready: &mut Ready) -> Flow
-        requires empty { waiting ready.old ≡ [] }
-        requires start { ready.old.to ≡ 0 }
-        requires behind { length (held_bytes self.old) ≤ at }
-        ensures decoded { (q : Bytes) (e : End) → quoted_from (held_bytes self.old) at (b ∷ q) e ≡ prefixed (waiting ready.new) (flowing result (quoted_from (held_bytes self.new) (at + 1)) q e) }
-        ensures behind { length (held_bytes self.new) ≤ at + 1 }
-        ensures fewer { length (waiting ready.new) + still_held result (length (held_bytes self.new)) ≤ length (held_bytes self.old) + 1 }
+    /// What is held back, as it is.
+    fn release(&self) -> Ready
+        ensures { items result ≡ items self.now.held }
     {
+        Ready::of(self.held.as_slice())
+    }
+}
+
+impl Coder for Quoted {
+    ghost later = { λ d. quoted_from (items d.held) };
+
+    ghost held = { λ d. length (items d.held) };
+
+    ghost backlog = { λ d. length (items d.held) };
+
+    #[inline(never)]
+    fn run(&self, raw: &[u8], out: &mut [u8]) -> Fed {
+        if !self.held.is_empty() {
+            return Fed { taken: 0, given: 0 };
+        }
+        let most = raw.len().min(out.len());
+        let mut rest = &raw[..most];
+        let mut given = 0;
+        while let [a, b, c, ..] = rest {
+            let Some(token) = token(*a, *b, *c) else {
+                break;
+            };
+            match token {
+                Token::Itself => {
+                    out[given] = *a;
+                    given += 1;
+                    rest = &rest[1..];
+                }
+                Token::Byte(b) => {
+                    out[given] = b;
+                    given += 1;
+                    rest = &rest[3..];
+                }
+                Token::Soft => rest = &rest[3..],
+                Token::Hard => {
+                    out[given..given + 2].copy_from_slice(b"\r\n");
+                    given += 2;
+                    rest = &rest[2..];
+                }
+            }
+        }
+        Fed {
+            taken: most - rest.len(),
+            given,
+        }
+    }
+
+    fn step(self, at: u32, b: u8) -> (Mode, Ready) {
         match (self.kind, b) {
             (Kind::Digit, b'0'..=b'9' | b'A'..=b'F' | b'a'..=b'f') => {
-                ready.push(escaped_byte(self.held[1], b));
-                self.drop_held();
+                let held = self.held.as_slice();
+                let byte = escaped(held[1], b).unwrap();
+                (Mode::Quoted(Quoted::new()), Ready::of(&[byte]))
             }
             (Kind::Blanks { soft: true }, b'0'..=b'9' | b'A'..=b'F' | b'a'..=b'f')
-                if self.len == 1 => self.hold(b, Kind::Digit),
-            (Kind::Cr { soft: true }, b'\n') => self.drop_held(),
+                if self.held.len() == 1 => {
+                (Mode::Quoted(self.hold(b, Kind::Digit)), Ready::new())
+            }
+            (Kind::Cr { soft: true }, b'\n') => (Mode::Quoted(Quoted::new()), Ready::new()),
             (Kind::Cr { soft: false }, b'\n') => {
-                self.drop_held();
-                ready.push(b'\r');
-                ready.push(b'\n');
+                (Mode::Quoted(Quoted::new()), Ready::of(b"\r\n"))
             }
-            (Kind::Blanks { soft }, b' ' | b'\t') if self.len == MOST_BLANKS + soft as usize => {
-                if soft {
-                    ready.push(b'=');
-                }
-                self.drop_held();
-                return too_many_blanks(at);
+            (Kind::Blanks { soft }, b' ' | b'\t')
+                if self.held.len() == MOST_BLANKS + soft as usize => {
+                let end = Flaw::TooManyBlanks.at(at - MOST_BLANKS as u32);
+                let equals = &self.held.as_slice()[..soft as usize];
+                (Mode::Ended(end), Ready::of(equals))
             }
-            (Kind::Blanks { soft }, b' ' | b'\t') => self.hold(b, Kind::Blanks { soft }),
-            (Kind::Blanks { soft }, b'\r') => self.hold(b, Kind::Cr { soft }),
+            (Kind::Blanks { soft }, b' ' | b'\t') => {
+                (
+                    Mode::Quoted(self.hold(b, Kind::Blanks { soft })),
+                    Ready::new(),
+                )
+            }
+            (Kind::Blanks { soft }, b'\r') => {
+                (Mode::Quoted(self.hold(b, Kind::Cr { soft })), Ready::new())
+            }
             (_, b'=') => {
-                self.release(ready);
-                self.hold(b, Kind::Blanks { soft: true });
+                let equals = Quoted::new().hold(b, Kind::Blanks { soft: true });
+                (Mode::Quoted(equals), self.release())
             }
             (_, b' ' | b'\t') => {
-                self.release(ready);
-                self.hold(b, Kind::Blanks { soft: false });
+                let blank = Quoted::new().hold(b, Kind::Blanks { soft: false });
+                (Mode::Quoted(blank), self.release())
             }
             (_, b'\r') => {
-                self.release(ready);
-                self.hold(b, Kind::Cr { soft: false });
+                let cr = Quoted::new().hold(b, Kind::Cr { soft: false });
+                (Mode::Quoted(cr), self.release())
             }
             (_, _) => {
-                self.release(ready);
+                let mut ready = self.release();
                 ready.push(b);
+                (Mode::Quoted(Quoted::new()), ready)
             }
         }
-        Flow::On
     }
 
-    /// The raw body has ended: gives what is held back, but for blanks and an `=` before them.
-    pub(crate) fn finish(&mut self, ready: &mut Ready)
-        requires empty { waiting ready.old ≡ [] }
-        requires start { ready.old.to ≡ 0 }
-        ensures { (at : ℕ) (e : End) → length (held_bytes self.old) ≤ at → quoted_from (held_bytes self.old) at [] e ≡ gives (waiting ready.new) e }
-    {
+    /// Gives what is held back, but for blanks and an `=` before them.
+    fn finish(self, _at: u32, end: End) -> (End, Ready) {
         match self.kind {
-            Kind::Digit | Kind::Cr { .. } => self.release(ready),
-            _ => self.drop_held(),
+            Kind::Digit | Kind::Cr { .. } => (end, self.release()),
+            _ => (end, Ready::new()),
         }
-    }
-
-    /// Forgets what is held back.
-    fn drop_held(&mut self)
-        ensures { held_bytes self.new ≡ [] }
-    {
-        self.len = 0;
-        self.kind = Kind::Blanks { soft: false };
-    }
-
-    /// Holds one more byte back, so that what is held is of this kind.
-    fn hold(&mut self, b: u8, kind: Kind)
-        requires { shaped kind (held_bytes self.old ++ (b ∷ [])) ≡ true }
-        ensures { held_bytes self.new ≡ held_bytes self.old ++ (b ∷ []) }
-    {
-        self.held[self.len] = b;
-        self.len += 1;
-        self.kind = kind;
-    }
-
-    /// Gives what is held back, as it is.
-    fn release(&mut self, ready: &mut Ready)
-        requires { ready.old.to ≡ 0 }
-        ensures given { waiting ready.new ≡ waiting ready.old ++ held_bytes self.old }
-        ensures used { ready.new.to ≤ 78 }
-        ensures none { held_bytes self.new ≡ [] }
-    {
-        ready.push_all(&self.held[..self.len]);
-        self.drop_held();
-    }
-}
-
-/// The fault of a run of blanks of which the 77th stands at the offset `at`.
-fn too_many_blanks(at: u32) -> Flow
-    requires { 76 ≤ at }
-    ensures { result ≡ Ended (Faulty (fault 52 5 (at - 76))) }
-{
-    Flow::Ended(End::Faulty(Fault {
-        number: 52,
-        layer: 5,
-        place: at - MOST_BLANKS as u32,
-    }))
-}
-
-/// The byte that two hexadecimal digits stand for.
-fn escaped_byte(high: u8, low: u8) -> u8
-    requires { (is_some (hex high) ≡ true) × (is_some (hex low) ≡ true) }
-    ensures { byte_of (hex high) (hex low) ≡ Some result }
-{
-    match (hex_value(high), hex_value(low)) {
-        (Some(h), Some(l)) => h * 16 + l,
-        _ => unreachable(),
     }
 }
