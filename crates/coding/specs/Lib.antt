@@ -5,6 +5,7 @@ pub mod Quoted
 pub mod QuotedLaws
 pub mod Buffers
 pub mod Flaws
+pub mod Flowing
 pub mod Sextets
 pub mod QuotedShapes
 pub mod QuotedHeld

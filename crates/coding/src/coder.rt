@@ -3,11 +3,11 @@ ghost use Rattle.byte_lines.specs.Bytes.{Bytes};
 ghost use Rattle.source.specs.declared.ends.End.{End as Ending};
 ghost use Rattle.coding.specs.Buffers.{items};
 ghost use Rattle.coding.specs.Decoding.{Decoded, gives, prefixed};
-ghost use Rattle.coding.specs.Modes.{later_by, held_by, backlog_by};
+ghost use Rattle.coding.specs.Flowing.{flowing, still_held};
 
 use crate::buffer::Buffer;
-use crate::decoder::Mode;
 use crate::fed::Fed;
+use crate::flow::Flow;
 use source::End;
 
 /// How many decoded bytes may wait: what one raw byte can set free, an `=`, 76 blanks, a CR and the byte itself.
@@ -17,7 +17,7 @@ pub(crate) const MOST_READY: usize = 80;
 pub(crate) type Ready = Buffer<MOST_READY>;
 
 /// What decodes the raw bytes to come, by those that it has taken.
-pub(crate) trait Coder: Copy {
+pub(crate) trait Coder {
     /// What the raw bytes from an offset on give, by the end behind them.
     ghost later: { Self → (at : ℕ) → (raw : Bytes) → Ending → Decoded };
 
@@ -35,15 +35,15 @@ pub(crate) trait Coder: Copy {
         ensures whole { (at : ℕ) (q : Bytes) (e : Ending) → later self.now at (raw.now ++ q) e ≡ prefixed (take result.given out.new) (later self.now (at + result.taken) (drop result.taken raw.now ++ q) e) }
         ensures fewer { result.given ≤ result.taken };
 
-    /// Takes the raw byte at the offset `at`: what decodes those behind it, and what it sets free.
-    fn step(self, at: u32, b: u8) -> (Mode, Ready)
-        requires { held self ≤ at }
-        ensures whole { (q : Bytes) (e : Ending) → later self at (b ∷ q) e ≡ prefixed (items result.1) (later_by result.0 (at + 1) q e) }
-        ensures behind { held_by result.0 ≤ at + 1 }
-        ensures fewer { length (items result.1) + backlog_by result.0 ≤ backlog self + 1 };
+    /// Takes the raw byte at the offset `at`: how it goes on, and what it sets free.
+    fn step(&mut self, at: u32, b: u8) -> (Flow, Ready)
+        requires { held self.old ≤ at }
+        ensures whole { (q : Bytes) (e : Ending) → later self.old at (b ∷ q) e ≡ prefixed (items result.1) (flowing result.0 (later self.new (at + 1)) q e) }
+        ensures behind { held self.new ≤ at + 1 }
+        ensures fewer { length (items result.1) + still_held result.0 (backlog self.new) ≤ backlog self.old + 1 };
 
     /// The raw body ends at the offset `at`: the decoded body's end, and what is set free.
-    fn finish(self, at: u32, end: End) -> (End, Ready)
-        requires { held self ≤ at }
-        ensures { later self at [] end ≡ gives (items result.1) result.0 };
+    fn finish(&self, at: u32, end: End) -> (End, Ready)
+        requires { held self.now ≤ at }
+        ensures { later self.now at [] end ≡ gives (items result.1) result.0 };
 }

@@ -7,6 +7,7 @@ mod coder;
 mod decoder;
 mod fed;
 mod flaw;
+mod flow;
 mod laws;
 mod quoted;
 

@@ -25,7 +25,7 @@ pub(crate) fn bytes_of(a: u8, b: u8, c: u8, d: u8) -> [u8; 3]
 }
 
 /// What each byte stands for, and 64 where it stands for nothing.
-// A table of numbers for speed: 1135 MB/s, where the `match` of `sextet_of` has 130, and a table of Option<u8> 44.
+// A table of numbers for speed: 1116 MB/s, where the `match` of `sextet_of` has 130, and a table of Option<u8> 44.
 const SEXTETS: [u8; 256] = [
     64, 64, 64, 64, 64, 64, 64, 64, 64, 64, 64, 64, 64, 64, 64, 64, 64, 64, 64, 64, 64, 64, 64, 64,
     64, 64, 64, 64, 64, 64, 64, 64, 64, 64, 64, 64, 64, 64, 64, 64, 64, 64, 64, 62, 64, 64, 64, 63,
@@ -44,7 +44,7 @@ const SEXTETS: [u8; 256] = [
 fn sextet_at(b: u8) -> Option<u8>
     ensures { result ≡ sextet b }
 {
-    let v = SEXTETS[b as usize];
+    let v = SEXTETS[usize::from(b)];
     if v < 64 { Some(v) } else { None }
 }
 

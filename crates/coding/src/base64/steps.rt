@@ -5,9 +5,9 @@ ghost use Rattle.coding.specs.Sextets.{sextets_of, Closes};
 use crate::base64::groups::{bytes_of, group, is_ignored, sextet_of};
 use crate::base64::{Base64, Sextets};
 use crate::coder::{Coder, Ready};
-use crate::decoder::Mode;
 use crate::fed::Fed;
 use crate::flaw::Flaw;
+use crate::flow::Flow;
 use source::End;
 
 impl Base64 {
@@ -68,30 +68,28 @@ impl Coder for Base64 {
     }
 
     #[tactic(auto, using(crate::proofs::Base64Steps::step_equals, crate::proofs::Base64Steps::from_ignored, crate::proofs::Base64Steps::from_character, crate::proofs::Base64Steps::from_fourth, crate::proofs::Base64Steps::octets_fewer))]
-    fn step(self, at: u32, b: u8) -> (Mode, Ready) {
+    fn step(&mut self, at: u32, b: u8) -> (Flow, Ready) {
         let Some(v) = sextet_of(b) else {
             return match (b, self.close()) {
-                (b'=', Some(ready)) => (Mode::Spent, ready),
-                (b'=', None) => (Mode::Ended(Flaw::LeftOver.at(at)), Ready::new()),
-                _ => (Mode::Base64(self), Ready::new()),
+                (b'=', Some(ready)) => (Flow::Spent, ready),
+                (b'=', None) => (Flow::Ended(Flaw::LeftOver.at(at)), Ready::new()),
+                _ => (Flow::On, Ready::new()),
             };
         };
-        let held = match self.held {
-            Sextets::None => Sextets::One(v),
-            Sextets::One(x) => Sextets::Two(x, v),
-            Sextets::Two(x, y) => Sextets::Three(x, y, v),
+        match self.held {
+            Sextets::None => self.held = Sextets::One(v),
+            Sextets::One(x) => self.held = Sextets::Two(x, v),
+            Sextets::Two(x, y) => self.held = Sextets::Three(x, y, v),
             Sextets::Three(x, y, z) => {
-                return (
-                    Mode::Base64(Base64::new()),
-                    Ready::of(&bytes_of(x, y, z, v)),
-                );
+                self.held = Sextets::None;
+                return (Flow::On, Ready::of(&bytes_of(x, y, z, v)));
             }
-        };
-        (Mode::Base64(Base64 { held }), Ready::new())
+        }
+        (Flow::On, Ready::new())
     }
 
     #[tactic(auto, using(crate::proofs::Base64Steps::from_end))]
-    fn finish(self, at: u32, end: End) -> (End, Ready) {
+    fn finish(&self, at: u32, end: End) -> (End, Ready) {
         match (self.close(), end) {
             (Some(ready), _) => (end, ready),
             (None, End::Clean) => (Flaw::LeftOver.at(at), Ready::new()),

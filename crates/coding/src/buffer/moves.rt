@@ -44,6 +44,12 @@ impl<const N: usize> Buffer<N> {
         self.len == 0
     }
 
+    pub(crate) fn clear(&mut self)
+        ensures { items self.new ≡ [] }
+    {
+        self.len = 0;
+    }
+
     pub(crate) fn push(&mut self, b: u8)
         requires { length (items self.old) < N }
         ensures { items self.new ≡ items self.old ++ (b ∷ []) }

@@ -7,6 +7,7 @@ ghost use Rattle.coding.specs.Decoders.{meaning, backlog, Feeds, Finishes, Relea
 use crate::coder::{Coder, Ready};
 use crate::decoder::{Coding, Decoder, Mode, StillReady};
 use crate::fed::Fed;
+use crate::flow::Flow;
 use source::End;
 
 /// The input has no byte at this offset or past it.
@@ -46,16 +47,21 @@ impl Decoder {
             return Fed { taken: 0, given };
         }
         let most = raw.len().min(LIMIT.saturating_sub(self.at) as usize);
-        if most == 0 {
+        let raw = &raw[..most];
+        let [b, ..] = raw else {
             return Fed { taken: 0, given: 0 };
-        }
-        let fed = self.mode.run(&raw[..most], out);
+        };
+        let fed = self.mode.run(raw, out);
         if fed.taken > 0 {
             self.at += fed.taken as u32;
             return fed;
         }
-        let (mode, ready) = self.mode.step(self.at, raw[0]);
-        self.mode = mode;
+        let (flow, ready) = self.mode.step(self.at, *b);
+        match flow {
+            Flow::On => {}
+            Flow::Spent => self.mode = Mode::Spent,
+            Flow::Ended(end) => self.mode = Mode::Ended(end),
+        }
         self.ready = ready;
         self.at += 1;
         Fed { taken: 1, given: 0 }
@@ -81,14 +87,11 @@ impl Decoder {
     pub fn outcome(&self) -> Option<End>
         ensures { Outcome (meaning self.now) result }
     {
+        if self.is_ready() {
+            return None;
+        }
         match self.mode {
-            Mode::Ended(end) => {
-                if self.ready.is_empty() {
-                    Some(end)
-                } else {
-                    None
-                }
-            }
+            Mode::Ended(end) => Some(end),
             _ => None,
         }
     }

@@ -8,6 +8,7 @@ use crate::base64::Base64;
 use crate::coder::{Coder, Ready};
 use crate::decoder::{Coding, Mode};
 use crate::fed::Fed;
+use crate::flow::Flow;
 use crate::quoted::Quoted;
 use source::End;
 
@@ -49,21 +50,21 @@ impl Coder for Mode {
         }
     }
 
-    fn step(self, at: u32, b: u8) -> (Mode, Ready) {
+    fn step(&mut self, at: u32, b: u8) -> (Flow, Ready) {
         match self {
-            Mode::Plain => (self, Ready::of(&[b])),
+            Mode::Plain => (Flow::On, Ready::of(&[b])),
             Mode::Base64(coder) => coder.step(at, b),
             Mode::Quoted(coder) => coder.step(at, b),
-            Mode::Spent | Mode::Ended(_) => (self, Ready::new()),
+            Mode::Spent | Mode::Ended(_) => (Flow::On, Ready::new()),
         }
     }
 
-    fn finish(self, at: u32, end: End) -> (End, Ready) {
+    fn finish(&self, at: u32, end: End) -> (End, Ready) {
         match self {
             Mode::Plain | Mode::Spent => (end, Ready::new()),
             Mode::Base64(coder) => coder.finish(at, end),
             Mode::Quoted(coder) => coder.finish(at, end),
-            Mode::Ended(end) => (end, Ready::new()),
+            Mode::Ended(end) => (*end, Ready::new()),
         }
     }
 }

@@ -5,9 +5,9 @@ ghost use Rattle.coding.specs.QuotedHeld.{quoted_from};
 
 use crate::buffer::Buffer;
 use crate::coder::{Coder, Ready};
-use crate::decoder::Mode;
 use crate::fed::Fed;
 use crate::flaw::Flaw;
+use crate::flow::Flow;
 use crate::quoted::runs::{escaped, token};
 use crate::quoted::{Kind, MOST_BLANKS, Quoted, Token};
 use source::End;
@@ -24,20 +24,30 @@ impl Quoted {
     }
 
     /// Holds one more byte back, so that what is held is of this kind.
-    fn hold(mut self, b: u8, kind: Kind) -> Self
-        requires { shaped kind (items self.held ++ (b ∷ [])) ≡ true }
-        ensures { items result.held ≡ items self.held ++ (b ∷ []) }
+    fn hold(&mut self, b: u8, kind: Kind)
+        requires { shaped kind (items self.old.held ++ (b ∷ [])) ≡ true }
+        ensures { items self.new.held ≡ items self.old.held ++ (b ∷ []) }
     {
         self.held.push(b);
         self.kind = kind;
-        self
     }
 
-    /// What is held back, as it is.
-    fn release(&self) -> Ready
-        ensures { items result ≡ items self.now.held }
+    /// Forgets what is held back.
+    fn clear(&mut self)
+        ensures { items self.new.held ≡ [] }
     {
-        Ready::of(self.held.as_slice())
+        self.held.clear();
+        self.kind = Kind::Blanks { soft: false };
+    }
+
+    /// What is held back, as it is; nothing is held back then.
+    fn release(&mut self) -> Ready
+        ensures given { items result ≡ items self.old.held }
+        ensures none { items self.new.held ≡ [] }
+    {
+        let ready = Ready::of(self.held.as_slice());
+        self.clear();
+        ready
     }
 }
 
@@ -85,60 +95,68 @@ impl Coder for Quoted {
         }
     }
 
-    fn step(self, at: u32, b: u8) -> (Mode, Ready) {
+    fn step(&mut self, at: u32, b: u8) -> (Flow, Ready) {
         match (self.kind, b) {
             (Kind::Digit, b'0'..=b'9' | b'A'..=b'F' | b'a'..=b'f') => {
                 let held = self.held.as_slice();
                 let byte = escaped(held[1], b).unwrap();
-                (Mode::Quoted(Quoted::new()), Ready::of(&[byte]))
+                self.clear();
+                (Flow::On, Ready::of(&[byte]))
             }
             (Kind::Blanks { soft: true }, b'0'..=b'9' | b'A'..=b'F' | b'a'..=b'f')
                 if self.held.len() == 1 => {
-                (Mode::Quoted(self.hold(b, Kind::Digit)), Ready::new())
+                self.hold(b, Kind::Digit);
+                (Flow::On, Ready::new())
             }
-            (Kind::Cr { soft: true }, b'\n') => (Mode::Quoted(Quoted::new()), Ready::new()),
+            (Kind::Cr { soft: true }, b'\n') => {
+                self.clear();
+                (Flow::On, Ready::new())
+            }
             (Kind::Cr { soft: false }, b'\n') => {
-                (Mode::Quoted(Quoted::new()), Ready::of(b"\r\n"))
+                self.clear();
+                (Flow::On, Ready::of(b"\r\n"))
             }
             (Kind::Blanks { soft }, b' ' | b'\t')
-                if self.held.len() == MOST_BLANKS + soft as usize => {
+                if self.held.len() == MOST_BLANKS + usize::from(soft) => {
                 let end = Flaw::TooManyBlanks.at(at - MOST_BLANKS as u32);
-                let equals = &self.held.as_slice()[..soft as usize];
-                (Mode::Ended(end), Ready::of(equals))
+                let equals = &self.held.as_slice()[..usize::from(soft)];
+                (Flow::Ended(end), Ready::of(equals))
             }
             (Kind::Blanks { soft }, b' ' | b'\t') => {
-                (
-                    Mode::Quoted(self.hold(b, Kind::Blanks { soft })),
-                    Ready::new(),
-                )
+                self.hold(b, Kind::Blanks { soft });
+                (Flow::On, Ready::new())
             }
             (Kind::Blanks { soft }, b'\r') => {
-                (Mode::Quoted(self.hold(b, Kind::Cr { soft })), Ready::new())
+                self.hold(b, Kind::Cr { soft });
+                (Flow::On, Ready::new())
             }
             (_, b'=') => {
-                let equals = Quoted::new().hold(b, Kind::Blanks { soft: true });
-                (Mode::Quoted(equals), self.release())
+                let ready = self.release();
+                self.hold(b, Kind::Blanks { soft: true });
+                (Flow::On, ready)
             }
             (_, b' ' | b'\t') => {
-                let blank = Quoted::new().hold(b, Kind::Blanks { soft: false });
-                (Mode::Quoted(blank), self.release())
+                let ready = self.release();
+                self.hold(b, Kind::Blanks { soft: false });
+                (Flow::On, ready)
             }
             (_, b'\r') => {
-                let cr = Quoted::new().hold(b, Kind::Cr { soft: false });
-                (Mode::Quoted(cr), self.release())
+                let ready = self.release();
+                self.hold(b, Kind::Cr { soft: false });
+                (Flow::On, ready)
             }
             (_, _) => {
                 let mut ready = self.release();
                 ready.push(b);
-                (Mode::Quoted(Quoted::new()), ready)
+                (Flow::On, ready)
             }
         }
     }
 
     /// Gives what is held back, but for blanks and an `=` before them.
-    fn finish(self, _at: u32, end: End) -> (End, Ready) {
+    fn finish(&self, _at: u32, end: End) -> (End, Ready) {
         match self.kind {
-            Kind::Digit | Kind::Cr { .. } => (end, self.release()),
+            Kind::Digit | Kind::Cr { .. } => (end, Ready::of(self.held.as_slice())),
             _ => (end, Ready::new()),
         }
     }

@@ -10,7 +10,7 @@ entry : (b : ℕ) → b < 256 → get_or SEXTETS b 0 ≡ sextet_or (sextet b)
 entry b h = get_or-map-range_with_len (λ (n : ℕ). sextet_or (sextet n)) 0 256 b b 0 h (omega arith)
 
 pub returns-then-v-lt64 : goal.returns-then-v-lt64
-returns-then-v-lt64 c = let small : c.args.b < 256 = search rules in some_sextet c.args.b (get_or SEXTETS c.args.b 0) (entry c.args.b small) c.if-v-lt64.true
+returns-then-v-lt64 c = let small : c.args.b < 256 = search rules in rw c.from.ensures (some_sextet c.args.b (get_or SEXTETS c.args.b 0) (entry c.args.b small) (rw c.from.ensures at c.if-v-lt64.true))
 
 pub returns-else-v-lt64 : goal.returns-else-v-lt64
-returns-else-v-lt64 c = let small : c.args.b < 256 = search rules in none-sextet c.args.b (get_or SEXTETS c.args.b 0) (entry c.args.b small) c.if-v-lt64.false
+returns-else-v-lt64 c = let small : c.args.b < 256 = search rules in none-sextet c.args.b (get_or SEXTETS c.args.b 0) (entry c.args.b small) (rw c.from.ensures at c.if-v-lt64.false)

@@ -3,13 +3,13 @@ use Rattle.coding.specs.Decoding.{Decoded}
 use Rattle.coding.specs.Buffers.{items}
 use Rattle.coding.specs.Modes.{later_by}
 use Rattle.coding.proofs.Endings.{ends_as_input}
-use Rattle.coding.proofs.Feeding.{some_waits, still_waiting, open_ended}
+use Rattle.coding.proofs.Feeding.{some_ready, still_waiting, open_ended}
 use Rattle.coding.proofs.decoder.Decoder.outcome.Goals as goal
 
-pub returns-else-is_empty : goal.returns-else-is_empty
-returns-else-is_empty c = λ x settled.
+pub returns-then-is_ready : goal.returns-then-is_ready
+returns-then-is_ready c = λ x settled.
     let s = c.args.self.now in
-    still_waiting (items s.ready) (later_by s.mode s.at) x (some_waits c.is_empty.result (items s.ready) c.is_empty.ensures c.if-is_empty.false) settled
+    still_waiting (items s.ready) (later_by s.mode s.at) x (some_ready c.is_ready.result (items s.ready) c.is_ready.ensures c.if-is_ready.true) settled
 
 pub returns-in_default : goal.returns-in_default
 returns-in_default c = λ x settled.

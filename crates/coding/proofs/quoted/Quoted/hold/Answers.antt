@@ -6,7 +6,7 @@ use Rattle.coding.proofs.quoted.Quoted.hold.Goals as goal
 
 pub push-requires : goal.push-requires
 push-requires c =
-    let h = items c.args.self.held in
+    let h = items c.args.self.now.held in
     let more = h ++ (c.args.b ∷ []) in
     let most = shape_length c.args.kind more (shape_parts c.args.kind more c.requires) in
     let l = length-append h (c.args.b ∷ []) in

@@ -9,14 +9,14 @@ use Rattle.coding.proofs.quoted.steps.QuotedCoder.finish.Goals as goal
 
 pub returns-in-Digit : goal.returns-in-Digit
 returns-in-Digit c =
-    let s = c.args.self in
+    let s = c.args.self.now in
     let h = items s.held in
     let n : (soft : Bool) → s.kind ≡ Blanks soft → ⊥ = search rules in
-    ended s.kind h (c.args._at - length h) c.args.end (shape_of s s.kind refl) ∙ ap (λ (l : Bytes). gives l c.args.end) (left-others s.kind h n ∙ sym c.release.ensures)
+    ended s.kind h (c.args._at - length h) c.args.end (shape_of s s.kind refl) ∙ ap (λ (l : Bytes). gives l c.args.end) (left-others s.kind h n ∙ sym (c.of.ensures ∙ c.as_slice.ensures))
 
 pub returns-in_default : goal.returns-in_default
 returns-in_default c =
-    let s = c.args.self in
+    let s = c.args.self.now in
     let h = items s.held in
     let k : (soft : Bool) × (s.kind ≡ Blanks soft) = search rules in
     rw c.new.ensures (ended (Blanks k.0) h (c.args._at - length h) c.args.end (shape_of s (Blanks k.0) k.1))
