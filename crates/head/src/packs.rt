@@ -136,6 +136,7 @@ pub(crate) fn pack(head: &[u8], buffer: &mut [u8; BUFFER], table: &mut [Record; 
 {
     let mut packer = Packer { out: buffer, to: 0 };
     let mut rest = head;
+    // Counted by hand: what `pack_field` takes off is no iterator's, since it holds the packer.
     let mut n = 0;
     while !rest.is_empty() {
         let start = packer.to;

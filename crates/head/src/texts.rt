@@ -11,6 +11,7 @@ fn is_blank(b: u8) -> bool
 }
 
 /// The text without the blanks at its start.
+// Not the library's `trim_ascii_start`: CR, LF and FF are no blanks here.
 pub(crate) fn trimmed_start(text: &[u8]) -> &[u8]
     ensures { result.now ≡ trim_start text.now }
 {
@@ -19,6 +20,7 @@ pub(crate) fn trimmed_start(text: &[u8]) -> &[u8]
 }
 
 /// The text without the blanks at its end.
+// Nor `trim_ascii_end`, for the same reason.
 pub(crate) fn trimmed_end(text: &[u8]) -> &[u8]
     ensures { result.now ≡ trim_end text.now }
 {

@@ -19,7 +19,7 @@ struct Level {
 }
 
 /// The open groups, the innermost last.
-// a buffer with its count: the type is Copy, which the kit's ArrayVec is not, and has no heap
+// An array and a count, since the levels are Copy, which the kit's ArrayVec is not, and hold no heap.
 #[derive(Clone, Copy)]
 pub struct Levels {
     slots: [Level; DEPTH],

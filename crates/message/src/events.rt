@@ -14,6 +14,7 @@ pub enum Kind {
 }
 
 /// An event of a message.
+// One record for all kinds, as the format has it: what a kind has not is 0, and the marks are a sum.
 #[derive(Clone, Copy, PartialEq, Eq, Debug)]
 pub struct Event {
     pub kind: Kind,

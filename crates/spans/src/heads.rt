@@ -55,7 +55,7 @@ pub fn find_head<S: Source>(input: &mut Input<S>, levels: &Levels) -> HeadSpan
     }
 }
 
-// no struct of input, levels and place: its methods would promise that they keep the levels, the place and the lent input, which is more than the two facts
+// No struct of input, levels and place: its methods would also have to promise that levels and place stay.
 /// Looks at the line behind the first `at` bytes of a head. The head goes on behind so many bytes, or ends.
 fn head_line<S: Source>(
     input: &mut Input<S>,

@@ -36,7 +36,7 @@ fn piece_len(value: &[u8]) -> usize
     ensures { result ≡ piece_length outside value.now }
 {
     let mut place = Place::Outside;
-    // A loop, since each byte moves the place on.
+    // A loop, since each byte moves the place on: `position` tests, and should change nothing.
     for (i, b) in value.iter().enumerate() {
         if ends_piece(place, *b) {
             return i;

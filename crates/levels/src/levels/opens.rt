@@ -44,6 +44,7 @@ impl Levels {
     }
 
     /// The number of the innermost open group, 0 for none.
+    // 0 and no Option, as an event tells its parent.
     pub fn innermost(&self) -> u32
         ensures { result ≡ number_in (groups self.now) }
     {
