@@ -15,6 +15,7 @@ use std::process::ExitCode;
 use std::time::Instant;
 use whole::decode_whole;
 
+// As in `intake` but for the name: a shared one would be a public function, and none can be held to what is printed.
 fn main(rt: HostRuntime) -> ExitCode {
     match run(&rt) {
         Ok(()) => ExitCode::SUCCESS,

@@ -18,6 +18,7 @@ use std::fs;
 use std::io::Read;
 use std::process::ExitCode;
 
+// As in `decode` but for the name: a shared one would be a public function, and none can be held to what is printed.
 fn main(rt: HostRuntime) -> ExitCode {
     match run(&rt) {
         Ok(()) => ExitCode::SUCCESS,
