@@ -23,22 +23,3 @@ end_fewer (Quoted d) at e =
     omega arith
 end_fewer Spent at e = omega arith
 end_fewer (Ended x) at e = omega arith
-
--- what waited was given
-pub gave-fewer : (w w' : Bytes) (n room held : ℕ) → n ≡ min (length w) room → w' ≡ drop n w → n + (length w' + held) ≤ length w + held + 0
-gave-fewer w w' n room held count rest = let l = ap length rest ∙ length-drop n w in omega arith
-
--- leading raw bytes were decoded straight into the buffer
-pub ran-fewer : (w : Bytes) (held taken given : ℕ) → given ≤ taken → given + (length w + held) ≤ length w + held + taken
-ran-fewer w held taken given h = omega arith
-
--- one raw byte was taken, and what it set free waits
-pub stepped-fewer : (w w' : Bytes) (held held' : ℕ) → length w' + held' ≤ held + 1 → 0 + (length w' + held') ≤ length w + held + 1
-stepped-fewer w w' held held' h = omega arith
-
--- the raw body has ended
-pub finished-fewer : (w w' : Bytes) (mode : Mode) (at : ℕ) (e x : End) → later_by mode at [] e ≡ gives w' x → length w' + 0 ≤ length w + backlog_by mode
-finished-fewer w w' mode at e x h =
-    let l = end_fewer mode at e in
-    let n = ap (λ (d : Decoded). length d.bytes) h in
-    omega arith

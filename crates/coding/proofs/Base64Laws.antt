@@ -11,7 +11,8 @@ use Rattle.source.specs.Meanings.{fault}
 use Rattle.coding.specs.Decoding.{gives, prefixed}
 use Rattle.coding.specs.Base64.{sextet, keeping, sextets, bits, octets, data_part, has_equals, base64_end, base64_from}
 use Rattle.coding.specs.Base64Laws.{alphabet, letter, encoded, Counts, NeverLonger, RoundTrip, IgnoresOthers, Base64Law}
-use Rattle.coding.proofs.Base64Steps.{length-octets, length-bits, byte1, byte2, byte3, octets-two, octets-three, from_character, from_equals, from_end, group_is}
+use Rattle.coding.specs.Sextets.{byte1, byte2, byte3}
+use Rattle.coding.proofs.Base64Steps.{length-octets, length-bits, octets-two, octets-three, from_character, from_equals, from_end, group_is}
 
 length-sextets : (bs : Bytes) → length (sextets bs) ≤ length bs
 unfolding sextets

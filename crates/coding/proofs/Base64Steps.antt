@@ -1,4 +1,5 @@
 -- Base64 by one raw byte at a time, and by groups of four characters.
+use Rattle.std.proofs.lemmas.Grind.{common_steps}
 use Rattle.std.proofs.Common.{◌≡◌, ℕ, suc, ◌+◌, ◌*◌, ◌/◌, ◌%◌, ◌<◌, ◌≤◌, true, false, not, ◌&&◌, is_some, get_or, drop, eqb, List, [], ◌∷◌, ◌++◌, length, Some, None, Option, sym, refl, ap, ◌∙◌, inl, inr, add-zero, arith, rules}
 use Rattle.std.specs.List.{flat_map}
 use Rattle.std.proofs.lemmas.List.{append_assoc, append-nil}
@@ -7,40 +8,18 @@ use Rattle.byte_lines.specs.Bytes.{Bytes}
 use Rattle.source.specs.declared.ends.End.{End}
 use Rattle.source.specs.Meanings.{fault}
 use Rattle.coding.specs.Decoding.{gives, prefixed}
-use Rattle.coding.specs.Sextets.{three_of, group_of}
+use Rattle.coding.specs.Sextets.{byte1, byte2, byte3, three_of, group_of}
 use Rattle.coding.specs.Base64.{sextet, sextets, bits, octets, data_part, has_equals, base64_end, base64_from}
 
--- the three bytes of four characters
-abbrev pub byte1 : (a b : ℕ) → ℕ
-byte1 a b = a * 4 + b / 16
-
-abbrev pub byte2 : (b c : ℕ) → ℕ
-byte2 b c = b % 16 * 16 + c / 4
-
-abbrev pub byte3 : (c d : ℕ) → ℕ
-byte3 c d = c % 4 * 64 + d
-
--- a quotient by a power of two, from the next one and its lowest bit
-halves2 : (v : ℕ) → v / 4 * 2 + v / 2 % 2 ≡ v / 2
-halves2 v = omega arith
-
-halves4 : (v : ℕ) → v / 8 * 2 + v / 4 % 2 ≡ v / 4
-halves4 v = omega arith
-
-halves8 : (v : ℕ) → v / 16 * 2 + v / 8 % 2 ≡ v / 8
-halves8 v = omega arith
-
-halves16 : (v : ℕ) → v / 32 * 2 + v / 16 % 2 ≡ v / 16
-halves16 v = omega arith
-
+-- the three bytes of four characters, by their bits
 byte1-bits : (a b : ℕ) → a / 32 * 128 + a / 16 % 2 * 64 + a / 8 % 2 * 32 + a / 4 % 2 * 16 + a / 2 % 2 * 8 + a % 2 * 4 + b / 32 * 2 + b / 16 % 2 ≡ byte1 a b
-byte1-bits a b = omega (arith, halves2 a, halves4 a, halves8 a, halves16 a, halves16 b)
+byte1-bits a b = grind (arith, common_steps)
 
 byte2-bits : (b c : ℕ) → b / 8 % 2 * 128 + b / 4 % 2 * 64 + b / 2 % 2 * 32 + b % 2 * 16 + c / 32 * 8 + c / 16 % 2 * 4 + c / 8 % 2 * 2 + c / 4 % 2 ≡ byte2 b c
-byte2-bits b c = omega (arith, halves2 b, halves4 b, halves8 b, halves4 c, halves8 c, halves16 c)
+byte2-bits b c = grind (arith, common_steps)
 
 byte3-bits : (c d : ℕ) → c / 2 % 2 * 128 + c % 2 * 64 + d / 32 * 32 + d / 16 % 2 * 16 + d / 8 % 2 * 8 + d / 4 % 2 * 4 + d / 2 % 2 * 2 + d % 2 ≡ byte3 c d
-byte3-bits c d = omega (arith, halves2 c, halves2 d, halves4 d, halves8 d, halves16 d)
+byte3-bits c d = grind (arith, common_steps)
 
 octets_four : (a b c d : ℕ) (rest : List ℕ) → octets (bits a ++ (bits b ++ (bits c ++ (bits d ++ rest)))) ≡ byte1 a b ∷ (byte2 b c ∷ (byte3 c d ∷ octets rest))
 unfolding octets
@@ -54,31 +33,15 @@ pub octets-two : (a b : ℕ) → octets (flat_map bits (a ∷ (b ∷ []))) ≡ b
 unfolding octets
 octets-two a b = rw (byte1-bits a b)
 
-pub sextet_small : (b v : ℕ) → sextet b ≡ Some v → v < 64
-sextet_small b v s = search rules
-
--- no '=' is a character
-equals_none : (b v : ℕ) → sextet b ≡ Some v → eqb b 61 ≡ false
-equals_none b v s =
-    elim (cases_Bool (eqb b 61)) [
-      | inl y ↦ let e = eqb-true b 61 y in let z : ◌≡◌ {A = Option ℕ} None (Some v) = ap sextet (sym e) ∙ s in absurd (let o : ◌≡◌ {A = ℕ} 0 1 = cc in omega arith)
-      | inr n ↦ n
-    ]
-
 -- a byte that is ignored
 pub from_ignored : (vs : List ℕ) (at b : ℕ) (q : Bytes) (e : End) → eqb b 61 ≡ false → sextet b ≡ None → base64_from vs at (b ∷ q) e ≡ base64_from vs (at + 1) q e
 unfolding base64_from sextets data_part has_equals
-from_ignored vs at b q e n s =
-    let place : at + suc (length (data_part q)) ≡ at + 1 + length (data_part q) = omega arith in
-    rw (n, data_part, has_equals, s, sextets, place)
+from_ignored vs at b q e n s = grind (arith, common_steps)
 
 -- a character
 pub from_character : (vs : List ℕ) (at b v : ℕ) (q : Bytes) (e : End) → sextet b ≡ Some v → base64_from vs at (b ∷ q) e ≡ base64_from (vs ++ (v ∷ [])) (at + 1) q e
 unfolding base64_from sextets data_part has_equals
-from_character vs at b v q e s =
-    let n = equals_none b v s in
-    let place : at + suc (length (data_part q)) ≡ at + 1 + length (data_part q) = omega arith in
-    rw (n, data_part, has_equals, s, sextets, place, append_assoc)
+from_character vs at b v q e s = grind (arith, common_steps)
 
 -- four characters are three bytes
 pub from_group : (a b c d at : ℕ) (q : Bytes) (e : End) → base64_from (a ∷ (b ∷ (c ∷ (d ∷ [])))) at q e ≡ prefixed (byte1 a b ∷ (byte2 b c ∷ (byte3 c d ∷ []))) (base64_from [] at q e)
@@ -172,16 +135,8 @@ abbrev pub sextet_or : Option ℕ → ℕ
 sextet_or (Some v) = v
 sextet_or None = 64
 
-entry_some : (o : Option ℕ) → sextet_or o < 64 → Some (sextet_or o) ≡ o
-entry_some (Some x) h = refl
-entry_some None h = absurd (omega arith)
-
 pub some_sextet : (b v : ℕ) → v ≡ sextet_or (sextet b) → v < 64 → Some v ≡ sextet b
-some_sextet b v e h = let k : sextet_or (sextet b) < 64 = omega arith in ap (λ (n : ℕ). Some n) e ∙ entry_some (sextet b) k
-
-entry-none : (o : Option ℕ) → ((x : ℕ) → o ≡ Some x → x < 64) → 64 ≤ sextet_or o → None ≡ o
-entry-none (Some x) small h = let lt = small x refl in absurd (omega arith)
-entry-none None small h = refl
+some_sextet b v e h = grind (arith, common_steps)
 
 pub none-sextet : (b v : ℕ) → v ≡ sextet_or (sextet b) → 64 ≤ v → None ≡ sextet b
-none-sextet b v e h = let k : 64 ≤ sextet_or (sextet b) = omega arith in entry-none (sextet b) (λ x s. sextet_small b x s) k
+none-sextet b v e h = grind (arith, common_steps)

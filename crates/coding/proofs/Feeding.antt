@@ -1,4 +1,5 @@
 -- What a feed gives and leaves, over plain lists.
+use Rattle.std.proofs.lemmas.Grind.{common_steps}
 use Rattle.std.proofs.Common.{◌≡◌, ℕ, ◌+◌, ◌<◌, ◌≤◌, min, Bool, true, false, not, eqb, [], ◌∷◌, ◌++◌, length, get_or, take, drop, sym, refl, ap, ◌∙◌, arith}
 use Rattle.std.proofs.lemmas.List.{append_assoc, length-append, length-take-le, take-append-drop, take_at, drop_at, drop-append-le, drop_more, nil_from_length}
 use Rattle.std.proofs.lemmas.Bool.{eqb-true, eqb-false, not-true, not-false}
@@ -14,17 +15,14 @@ use Rattle.coding.specs.Decoders.{Feeds}
 pub none-waits : (t : Bool) (w : Bytes) → t ≡ eqb (length w) 0 → t ≡ true → w ≡ []
 none-waits t w e h = nil_from_length w (eqb-true (length w) 0 (sym e ∙ h))
 
-pub some_waits : (t : Bool) (w : Bytes) → t ≡ eqb (length w) 0 → t ≡ false → 0 < length w
-some_waits t w e h = let n = eqb-false (length w) 0 (sym e ∙ h) in omega (arith, n)
-
 pub none-ready : (t : Bool) (w : Bytes) → t ≡ not (eqb (length w) 0) → t ≡ false → w ≡ []
-none-ready t w e h = none-waits true w (sym (not-false (eqb (length w) 0) (sym e ∙ h))) refl
+none-ready t w e h = grind (arith, common_steps)
 
 pub some_ready : (t : Bool) (w : Bytes) → t ≡ not (eqb (length w) 0) → t ≡ true → 0 < length w
-some_ready t w e h = some_waits false w (sym (not-true (eqb (length w) 0) (sym e ∙ h))) refl
+some_ready t w e h = grind (arith, common_steps)
 
 pub prefixed-append : (a b : Bytes) (d : Decoded) → prefixed a (prefixed b d) ≡ prefixed (a ++ b) d
-prefixed-append a b d = ap (λ (t : Bytes). gives t d.ending) (sym (append_assoc a b d.bytes))
+prefixed-append a b d = grind (arith, common_steps)
 
 -- bytes put at a buffer's start
 pub front : (n : ℕ) (s out out' : Bytes) → length s ≡ n → out' ≡ s ++ drop n out → take n out' ≡ s
@@ -81,31 +79,6 @@ ran w out out' raw later later' place most taken given none long took gave some 
           ∙ ap (λ (t : Bytes). prefixed (take given out') (prefixed t (later' (drop taken raw ++ q) e))) (sym none);
       waits = λ h. absurd (omega (arith, ap length none));
       goes = λ n r p. some;
-    }
-
--- where no raw byte was taken, none was given
-pub none-given : (raw out out' : Bytes) (later : Bytes → End → Decoded) (given : ℕ) → given ≤ length out → length out' ≡ length out
-    → later (raw ++ []) Clean ≡ prefixed (take given out') (later (raw ++ []) Clean) → given ≡ 0
-none-given raw out out' later given gave same e =
-    let l = length-take-le given out' (omega arith) in
-    let n = ap (λ (d : Decoded). length d.bytes) e ∙ length-append (take given out') (later (raw ++ []) Clean).bytes in
-    omega (arith, n)
-
--- one raw byte was taken, and what it set free waits
-pub stepped : (w w' out out' raw : Bytes) (later later' : Bytes → End → Decoded) (place : ℕ) → w ≡ [] → 0 < length raw → out' ≡ out
-    → ((q : Bytes) (e : End) → later (get_or raw 0 0 ∷ q) e ≡ prefixed w' (later' q e))
-    → Feeds (record { ready = w; later = later; place = place }) raw out 1 0 (record { ready = w'; later = later'; place = place + 1 }) out'
-stepped w w' out out' raw later later' place none some same whole =
-    record {
-      took = omega arith;
-      gave = omega arith;
-      kept = same;
-      moved = refl;
-      whole = λ q e.
-          ap (λ (t : Bytes). prefixed t (later (raw ++ q) e)) none
-          ∙ ap (λ (t : Bytes). later (t ++ q) e) (drop_more raw 0 0 some) ∙ whole (drop 1 raw ++ q) e;
-      waits = λ h. absurd (omega (arith, ap length none));
-      goes = λ n r p. omega arith;
     }
 
 -- The end of a body.

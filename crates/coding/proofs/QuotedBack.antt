@@ -1,4 +1,5 @@
 -- What is escaped decodes to what it was.
+use Rattle.std.proofs.lemmas.Grind.{common_steps}
 use Rattle.std.proofs.Common.{◌≡◌, ℕ, ◌+◌, ◌-◌, ◌*◌, ◌/◌, ◌%◌, ◌<◌, [], ◌∷◌, Some, Option, ap, ◌∙◌, ⊎_elim, arith}
 use Rattle.std.proofs.lemmas.Bool.{cases_lt, lt-ltb, le-ltb}
 use Rattle.byte_lines.specs.Bytes.{Bytes}
@@ -8,23 +9,10 @@ use Rattle.coding.specs.Decoding.{gives, prefixed}
 use Rattle.coding.specs.Quoted.{byte_of, quoted}
 use Rattle.coding.specs.QuotedLaws.{Octets, digit, escaped}
 use Rattle.coding.proofs.QuotedHeld.{quoted-escape}
-use Rattle.coding.proofs.QuotedSteps.{above, inside, quoted-nothing}
+use Rattle.coding.proofs.QuotedSteps.{quoted-nothing}
 
 hex-digit : (v : ℕ) → v < 16 → hex (digit v) ≡ Some v
-hex-digit v h =
-    ⊎_elim
-    (λ l.
-    let d : digit v ≡ v + 48 = let t = lt-ltb v 10 l in rw (t, digit) in
-    let t = inside 48 57 (v + 48) (omega arith) (omega arith) in
-    let z : v + 48 - 48 ≡ v = omega arith in
-    ap hex d ∙ rw (t, hex) (ap (λ (n : ℕ). Some n) z))
-    (λ l.
-    let d : digit v ≡ v + 55 = let t = le-ltb v 10 l in rw (t, digit) in
-    let s = above 48 57 (v + 55) (omega arith) in
-    let t = inside 65 70 (v + 55) (omega arith) (omega arith) in
-    let z : v + 55 - 55 ≡ v = omega arith in
-    ap hex d ∙ rw (s, t, hex) (ap (λ (n : ℕ). Some n) z))
-    (cases_lt v 10)
+hex-digit v h = grind (arith, common_steps)
 
 pub escaped_back : (at : ℕ) (s : Bytes) (e : End) → Octets s → quoted at (escaped s) e ≡ gives s e
 unfolding escaped

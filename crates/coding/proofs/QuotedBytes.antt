@@ -1,4 +1,5 @@
 -- What single raw bytes stand for, by their class.
+use Rattle.std.proofs.lemmas.Grind.{common_steps}
 use Rattle.std.proofs.Common.{◌≡◌, ℕ, suc, ◌≤◌, true, false, eqb, [], ◌∷◌, ◌++◌, Some, None, Option, sym, refl, ap, ◌∙◌, subst, ⊎_elim, arith}
 use Rattle.std.proofs.lemmas.Bool.{ne_eqb, eqb-true, or_from, or_cases, both_ways, le-ltb}
 use Rattle.byte_lines.specs.Bytes.{Bytes}
@@ -15,13 +16,13 @@ pub blank_not : (n b : ℕ) → blank n ≡ false → blank b ≡ true → eqb b
 blank_not n b h k = ne_eqb b n (λ e. both_ways (blank b) (ap blank e ∙ h) k)
 
 pub hex_not : (n b v : ℕ) → hex n ≡ None → hex b ≡ Some v → eqb b n ≡ false
-hex_not n b v h k = ne_eqb b n (λ e. let same = ap hex e in let z : ◌≡◌ {A = ℕ} 0 1 = cc in omega arith)
+hex_not n b v h k = grind (arith, common_steps)
 
 pub hex_no_blank : (b v : ℕ) → hex b ≡ Some v → blank b ≡ false
-hex_no_blank b v k = or_from (eqb b 32) (eqb b 9) (hex_not 32 b v refl k) (hex_not 9 b v refl k)
+hex_no_blank b v k = grind (arith, common_steps)
 
 pub blank_no_hex : (b : ℕ) → blank b ≡ true → hex b ≡ None
-blank_no_hex b h = ⊎_elim (λ e. ap hex (eqb-true b 32 e)) (λ e. ap hex (eqb-true b 9 e)) (or_cases (eqb b 32) (eqb b 9) h)
+blank_no_hex b h = grind (arith, common_steps)
 
 -- two digits that are a byte
 pub digits : (o p : Option ℕ) (v : ℕ) → byte_of o p ≡ Some v → (h : ℕ) × (l : ℕ) × (o ≡ Some h) × (p ≡ Some l)
@@ -109,7 +110,7 @@ solid_start b s h = record { head = b; tail = trim_end s; is = trim_solid b s h 
 
 trim-more : (b : ℕ) (s : Bytes) (k : Solid s) → trim_end (b ∷ s) ≡ b ∷ trim_end s
 unfolding trim_end
-trim-more b s k = let e = k.is in ap (kept b) e ∙ ap (λ (l : Bytes). b ∷ l) (sym e)
+trim-more b s k = grind (arith, common_steps)
 
 solid_more : (b : ℕ) (s : Bytes) → Solid s → Solid (b ∷ s)
 solid_more b s k = record { head = b; tail = trim_end s; is = trim-more b s k }
@@ -120,7 +121,7 @@ solid_after (b ∷ bs) s k = solid_more b (bs ++ s) (solid_after bs s k)
 
 softened-more : (b : ℕ) (s : Bytes) → Solid s → softened (b ∷ trim_end s) ≡ also b (softened (trim_end s))
 unfolding softened
-softened-more b s k = let e = k.is in ap (λ (l : Bytes). softened (b ∷ l)) e ∙ ap (λ (l : Bytes). also b (softened l)) (sym e)
+softened-more b s k = grind (arith, common_steps)
 
 -- a blank that the line's end does not follow, and an '=' that nothing is made of
 pub stands-blank : (b : ℕ) (c : Bytes) → blank b ≡ true → Solid c → blanks c ≤ 75 → Stands (b ∷ []) (b ∷ []) c

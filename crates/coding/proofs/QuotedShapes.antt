@@ -1,4 +1,5 @@
 -- What is held back of a line, taken apart and put together.
+use Rattle.std.proofs.lemmas.Grind.{common_steps}
 use Rattle.std.proofs.Common.{◌≡◌, ℕ, ◌+◌, ◌≤◌, Bool, true, false, ◌&&◌, eqb, leb, [], ◌∷◌, ◌++◌, length, take, get_or, is_some, Some, None, Option, sym, refl, ap, ◌∙◌, append_assoc, arith}
 use mathlib.Core.Bool.{false≢true}
 use mir.Val.{bool_byte}
@@ -77,7 +78,7 @@ blanks-whole_at true run a m = run_whole run a m
 blanks-whole : (soft : Bool) (held : Bytes) → Blank soft held → blanks_held soft held ≡ true
 blanks-whole soft held b = ap (blanks_held soft) b.is ∙ blanks-whole_at soft b.run b.all b.most
 
-some_parts : (o : Option ℕ) → is_some o ≡ true → (v : ℕ) × (o ≡ Some v)
+pub some_parts : (o : Option ℕ) → is_some o ≡ true → (v : ℕ) × (o ≡ Some v)
 some_parts None h = absurd (false≢true h)
 some_parts (Some v) h = (v, refl)
 
@@ -138,10 +139,6 @@ shape_whole Digit held h = half_whole held h
 shape_whole (Cr soft) held h = cr_whole soft held h
 
 -- how much is held
-pub length_equals : (soft : Bool) → length (equals_if soft) ≡ bool_byte soft
-length_equals true = refl
-length_equals false = refl
-
 pub equals_first : (soft : Bool) (run : Bytes) → take (bool_byte soft) (equals_if soft ++ run) ≡ equals_if soft
 equals_first true run = refl
 equals_first false run = refl
@@ -151,7 +148,7 @@ one_least true = omega arith
 one_least false = omega arith
 
 pub blank-length : (soft : Bool) (held : Bytes) (b : Blank soft held) → length held ≡ bool_byte soft + length b.run
-blank-length soft held b = ap length b.is ∙ length-append (equals_if soft) b.run ∙ ap (λ (n : ℕ). n + length b.run) (length_equals soft)
+blank-length soft held b = grind (arith, common_steps)
 
 pub shape_length : (kind : Kind) (held : Bytes) → Shape kind held → length held ≤ 78
 shape_length (Blanks soft) held b = let l = blank-length soft held b in let o = one_least soft in let m = b.most in omega arith
@@ -171,7 +168,7 @@ pub shape_equals : Shape (Blanks true) (61 ∷ [])
 shape_equals = record { run = []; all = tt; most = omega arith; is = refl }
 
 pub shape_blank : (b : ℕ) → blank b ≡ true → Shape (Blanks false) (b ∷ [])
-shape_blank b h = record { run = b ∷ []; all = (h, tt); most = omega arith; is = refl }
+shape_blank b h = grind (arith, common_steps)
 
 pub shape_cr : Shape (Cr false) (13 ∷ [])
 shape_cr = record { front = []; blanks = shape_none; is = refl }
@@ -192,13 +189,10 @@ shape_more soft held b h k m =
 
 -- a CR behind blanks, and a hexadecimal digit behind an '='
 pub shape_return : (soft : Bool) (held : Bytes) (b : ℕ) → Blank soft held → b ≡ 13 → Shape (Cr soft) (held ++ (b ∷ []))
-shape_return soft held b h t = record { front = held; blanks = h; is = ap (λ (n : ℕ). held ++ (n ∷ [])) t }
+shape_return soft held b h t = grind (arith, common_steps)
 
 pub shape_digit : (held : Bytes) (b v : ℕ) → Blank true held → length held ≡ 1 → hex b ≡ Some v → Shape Digit (held ++ (b ∷ []))
-shape_digit held b v h z k =
-    let l = blank-length true held h in
-    let none : length h.run ≡ 0 = omega arith in
-    record { digit = b; value = v; hexadecimal = k; is = ap (λ (l : Bytes). l ++ (b ∷ [])) (h.is ∙ ap (λ (l : Bytes). 61 ∷ l) (nil_from_length h.run none)) }
+shape_digit held b v h z k = grind (arith, common_steps)
 
 -- a decoder -------------------------------------------------------------------------------------
 

@@ -1,5 +1,6 @@
 -- What a raw byte does to a decoder, by what it holds back.
-use Rattle.std.proofs.Common.{◌≡◌, ℕ, ◌+◌, ◌-◌, ◌<◌, ◌≤◌, Bool, true, false, not, ◌&&◌, eqb, ◌⊎◌, [], ◌∷◌, ◌++◌, length, get_or, take, Some, None, sym, refl, ap, ◌∙◌, ⊎_elim, append_assoc, append-nil, arith}
+use Rattle.std.proofs.lemmas.Grind.{common_steps}
+use Rattle.std.proofs.Common.{◌≡◌, ℕ, ◌+◌, ◌-◌, ◌<◌, ◌≤◌, Bool, true, false, not, ◌&&◌, eqb, ◌⊎◌, [], ◌∷◌, ◌++◌, length, get_or, take, is_some, Some, None, sym, refl, ap, ◌∙◌, ⊎_elim, append_assoc, append-nil, arith}
 use mir.Val.{bool_byte}
 use Rattle.std.specs.Option.{IsSome}
 use Rattle.std.proofs.lemmas.List.{length-append}
@@ -15,7 +16,7 @@ use Rattle.coding.specs.declared.quoted.Kind.TheVariants.{Blanks, Digit, Cr}
 use Rattle.coding.specs.Decoding.{gives, prefixed}
 use Rattle.coding.specs.QuotedHeld.{quoted_from, Mere}
 use Rattle.coding.specs.Quoted.{byte_of, quoted_lines, quoted}
-use Rattle.coding.proofs.QuotedShapes.{digit_at, equals_first, AllBlank, equals_if, Blank, Return, Half, Shape, blank-length}
+use Rattle.coding.proofs.QuotedShapes.{some_parts, digit_at, equals_first, AllBlank, equals_if, Blank, Return, Half, Shape, blank-length}
 use Rattle.coding.proofs.QuotedBytes.{digits, Plain, plain_start, plain_second, blank_no_hex}
 use Rattle.coding.proofs.QuotedHeld.{goes_on_one, goes_start, quoted_other, quoted-escape, release_blanks, release_return, release_half}
 use Rattle.coding.proofs.QuotedBreaks.{broken, quoted_break, quoted_end, quoted-fault}
@@ -28,30 +29,11 @@ NotHex b = (b < 48) ⊎ (((57 < b) × (b < 65)) ⊎ (((70 < b) × (b < 97)) ⊎ 
 abbrev pub IsHex : ℕ → Type 0
 IsHex b = ((48 ≤ b) × (b ≤ 57)) ⊎ (((65 ≤ b) × (b ≤ 70)) ⊎ ((97 ≤ b) × (b ≤ 102)))
 
-below : (low high b : ℕ) → b < low → within low high b ≡ false
-below low high b h = rw (lt-leb low b h)
-
-pub above : (low high b : ℕ) → high < b → within low high b ≡ false
-above low high b h = and_right _ _ (lt-leb b high h)
-
-pub inside : (low high b : ℕ) → low ≤ b → b ≤ high → within low high b ≡ true
-inside low high b h k = and_from _ _ (le-leb low b h) (le-leb b high k)
-
-hex-none : (b : ℕ) → within 48 57 b ≡ false → within 65 70 b ≡ false → within 97 102 b ≡ false → hex b ≡ None
-hex-none b x y z = rw (x, y, z, hex)
-
 not_hex : (b : ℕ) → NotHex b → hex b ≡ None
-not_hex b h =
-    ⊎_elim (λ l. hex-none b (below 48 57 b l) (below 65 70 b (omega arith)) (below 97 102 b (omega arith)))
-    (λ h. ⊎_elim (λ l. hex-none b (above 48 57 b l.0) (below 65 70 b l.1) (below 97 102 b (omega arith)))
-    (λ h. ⊎_elim (λ l. hex-none b (above 48 57 b (omega arith)) (above 65 70 b l.0) (below 97 102 b l.1))
-    (λ l. hex-none b (above 48 57 b (omega arith)) (above 65 70 b (omega arith)) (above 97 102 b l)) h) h) h
+not_hex b h = grind (arith, common_steps)
 
 pub is_hex : (b : ℕ) → IsHex b → (v : ℕ) × (hex b ≡ Some v)
-is_hex b h =
-    ⊎_elim (λ l. (b - 48, let t = inside 48 57 b l.0 l.1 in rw (t, hex)))
-    (λ h. ⊎_elim (λ l. (b - 55, let s = above 48 57 b (omega arith) in let t = inside 65 70 b l.0 l.1 in rw (s, t, hex)))
-    (λ l. (b - 87, let r = above 48 57 b (omega arith) in let s = above 65 70 b (omega arith) in let t = inside 97 102 b l.0 l.1 in rw (r, s, t, hex))) h) h
+is_hex b h = let k : is_some (hex b) ≡ true = grind (arith, common_steps) in some_parts (hex b) k
 
 pub is_blank : (b : ℕ) → (b ≡ 32) ⊎ (b ≡ 9) → blank b ≡ true
 is_blank b h = ⊎_elim (λ e. ap blank e) (λ e. ap blank e) h
@@ -92,9 +74,7 @@ abbrev pub Holds : (h : Bytes) (at b : ℕ) (out h' : Bytes) → Type 0
 Holds h at b out h' = (q : Bytes) (e : End) → quoted_from h at (b ∷ q) e ≡ prefixed out (quoted_from h' (at + 1) q e)
 
 pub both_digits : (h : Bytes) (b : ℕ) → Half h → IsHex b → IsSome (byte_of (hex (get_or h 1 0)) (hex b))
-both_digits h b s x =
-    let high = ap hex (digit_at h s) ∙ s.hexadecimal in
-    rw (high, (is_hex b x).1) refl
+both_digits h b s x = grind (arith, common_steps)
 
 module _ (h : Bytes) (at b : ℕ) (behind : length h ≤ at) where
   -- what was held is given, and b is held
@@ -171,9 +151,6 @@ ended (Cr soft) h at e s =
     rw s.is (
     release_return soft k.run at [] e k.all k.most refl s.front k.is
     ∙ ap (prefixed f) (quoted-nothing (at + length f) e) ∙ ap (λ (l : Bytes). gives l e) (append-nil f))
-
-pub left-blanks : (kind : Kind) (soft : Bool) (h : Bytes) → kind ≡ Blanks soft → left kind h ≡ []
-left-blanks kind soft h e = ap (λ (k : Kind). left k h) e
 
 pub left-others : (kind : Kind) (h : Bytes) → ((soft : Bool) → kind ≡ Blanks soft → ⊥) → left kind h ≡ h
 left-others (Blanks soft) h n = absurd (n soft refl)

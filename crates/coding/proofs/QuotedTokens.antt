@@ -1,4 +1,5 @@
 -- What stands first in raw bytes, by the bytes.
+use Rattle.std.proofs.lemmas.Grind.{common_steps}
 use Rattle.std.proofs.Common.{◌≡◌, ℕ, ◌+◌, ◌-◌, ◌<◌, ◌≤◌, take, Bool, true, false, eqb, ltb, [], ◌∷◌, ◌++◌, length, drop, get_or, Some, sym, refl, ap, ◌∙◌, arith}
 use mathlib.Core.Bool.{false≢true}
 use Rattle.std.proofs.lemmas.List.FromFn.{get_or-map-range_with_len}
@@ -89,9 +90,7 @@ token_first Hard (a ∷ b ∷ c ∷ s) h r at q e = r at (s ++ q) e
 
 -- a run of tokens at the start of raw bytes, where nothing is held back
 quoted-none : (h : Bytes) (at : ℕ) (s : Bytes) (e : End) → h ≡ [] → quoted_from h at s e ≡ quoted at s e
-quoted-none h at s e none =
-    let z : at - 0 ≡ at = omega arith in
-    ap (λ (k : Bytes). quoted_from k at s e) none ∙ ap (λ (n : ℕ). quoted n s e) z
+quoted-none h at s e none = grind (arith, common_steps)
 
 pub quoted_ran : (h raw rest : Bytes) (most : ℕ) {before after : Bytes} {given : ℕ} → h ≡ [] → most ≤ length raw → Ran quoted (take most raw) rest before after given
     → (at : ℕ) (q : Bytes) (e : End) → quoted_from h at (raw ++ q) e ≡ prefixed (take given after) (quoted_from h (at + (most - length rest)) (drop (most - length rest) raw ++ q) e)

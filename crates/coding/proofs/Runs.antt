@@ -1,4 +1,5 @@
 -- A run of raw bytes that are decoded from slice to slice.
+use Rattle.std.proofs.lemmas.Grind.{common_steps}
 use Rattle.std.proofs.Common.{◌≡◌, ℕ, ◌+◌, ◌-◌, ◌≤◌, [], ◌∷◌, ◌++◌, length, take, drop, set, sym, refl, ap, ◌∙◌, arith}
 use borrow.Rule.Slice.PartMut.{put_mid}
 use Rattle.std.proofs.lemmas.List.{append_assoc, append-nil, length-drop, drop-drop, take_more_set, drop-set-lt}
@@ -58,16 +59,11 @@ pub ran_past : {later : ℕ → Bytes → End → Decoded} {raw rest rest' befor
     → rest' ≡ drop n rest → n ≤ length rest
     → ((at : ℕ) (q : Bytes) (e : End) → later at (rest ++ q) e ≡ prefixed [] (later (at + n) (drop n rest ++ q) e))
     → Ran later raw rest' before after given
-ran_past {later} {raw} {rest} {rest'} {before} {after} {given} n r is few step =
-    let z : given + 0 ≡ given = omega arith in
-    let g = r.gave in
-    let put : take (given + 0) after ≡ take given after ++ [] = rw z (sym (append-nil (take given after))) in
-    rw z at (ran_more {after' = after} [] n 0 r is few refl (omega arith) (omega arith) put refl step)
+ran_past {later} {raw} {rest} {rest'} {before} {after} {given} n r is few step = grind (arith, common_steps)
 
 -- a byte that is put behind those given
 pub ran_push : {later : ℕ → Bytes → End → Decoded} {raw rest rest' before after : Bytes} {given : ℕ} (b n : ℕ) → Ran later raw rest before after given
     → length after ≡ length before → rest' ≡ drop n rest → n ≤ length rest → 1 ≤ n → given + 1 ≤ length before
     → ((at : ℕ) (q : Bytes) (e : End) → later at (rest ++ q) e ≡ prefixed (b ∷ []) (later (at + n) (drop n rest ++ q) e))
     → Ran later raw rest' before (set after given b) (given + 1)
-ran_push {later} {raw} {rest} {rest'} {before} {after} {given} b n r same is few some room step =
-    ran_more (b ∷ []) n 1 r is few refl some room (take_more_set after given b (omega arith)) (drop-set-lt (given + 1) after given b (omega arith)) step
+ran_push {later} {raw} {rest} {rest'} {before} {after} {given} b n r same is few some room step = grind (arith, common_steps)

@@ -23,8 +23,17 @@ six_bits (Two a b) = nat_lt a 64 && nat_lt b 64
 six_bits (Three a b c) = nat_lt a 64 && (nat_lt b 64 && nat_lt c 64)
 
 -- the three bytes of four
+abbrev pub byte1 : (a b : ℕ) → ℕ
+byte1 a b = a * 4 + b / 16
+
+abbrev pub byte2 : (b c : ℕ) → ℕ
+byte2 b c = b % 16 * 16 + c / 4
+
+abbrev pub byte3 : (c d : ℕ) → ℕ
+byte3 c d = c % 4 * 64 + d
+
 abbrev pub three_of : (a b c d : ℕ) → Bytes
-three_of a b c d = (a * 4 + b / 16) ∷ ((b % 16 * 16 + c / 4) ∷ ((c % 4 * 64 + d) ∷ []))
+three_of a b c d = byte1 a b ∷ (byte2 b c ∷ (byte3 c d ∷ []))
 
 -- those of four raw bytes, if each stands for a character
 abbrev pub group_of : (a b c d : Option ℕ) → Option Bytes
