@@ -1,13 +1,13 @@
 -- How long a decoded body is, and how it ends.
-use Rattle.std.proofs.Common.{◌≡◌, ℕ, ◌+◌, ◌-◌, ◌≤◌, Some, None, Option, subst, Bool, true, false, [], ◌++◌, length, take, drop, sym, refl, ap, ◌∙◌, arith}
+use Rattle.std.proofs.Common.{◌≡◌, ℕ, ◌+◌, ◌-◌, ◌<◌, ◌≤◌, Some, None, Option, subst, Bool, true, false, [], ◌++◌, length, take, drop, sym, refl, ap, ◌∙◌, arith}
 use borrow.Rule.Slice.PartMut.{put_mid, post_of}
 use Rattle.std.specs.Option.{IsSome}
+use Rattle.std.proofs.Math.Seq.{take-append-add}
 use Rattle.std.proofs.lemmas.List.{append-nil, append_assoc, length-append, length-take-le, length-drop, take-append-drop, drop-drop, drop_all}
 use Rattle.byte_lines.specs.Bytes.{Bytes}
 use Rattle.source.specs.declared.ends.End.{End}
 use Rattle.source.specs.declared.ends.End.TheVariants.{Clean}
 use Rattle.coding.specs.declared.decoder.Coding.{Coding}
-use Rattle.coding.specs.declared.decoder.Coding.TheVariants.{Plain, Quoted, Base64}
 use Rattle.coding.specs.declared.decoder.Mode.{Mode}
 use Rattle.coding.specs.declared.decoder.Mode.TheVariants.{Plain as InPlain, Base64 as InBase64, Quoted as InQuoted, Spent, Ended}
 use Rattle.coding.specs.Codings.{decoded}
@@ -16,17 +16,9 @@ use Rattle.coding.specs.declared.decoder.Decoder.{Decoder}
 use Rattle.coding.specs.Buffers.{items}
 use Rattle.coding.specs.Decoders.{Meaning, meaning, outlook, Finishes, Settled, Outcome}
 use Rattle.coding.specs.Modes.{later_by}
-use Rattle.coding.proofs.Base64Laws.{base64_law}
 use Rattle.coding.proofs.Endings.{ends_as_input}
 use Rattle.coding.proofs.Feeding.{open_ended}
-use Rattle.coding.proofs.QuotedLonger.{never_longer_lem}
 use Rattle.decode.specs.Wholes.{put}
-
--- a decoded body is no longer than the raw one
-pub no_longer : (coding : Coding) (raw : Bytes) → length (decoded coding 0 raw Clean).bytes ≤ length raw
-no_longer Plain raw = omega arith
-no_longer Quoted raw = never_longer_lem 0 raw Clean
-no_longer Base64 raw = base64_law.never_longer 0 raw Clean
 
 -- a decoder of which nothing waits took the end
 pub finished : (taken : Bool) (m m' : Meaning) → m.ready ≡ [] → Finishes taken m Clean m' → (raw : Bytes) (e : End) → outlook m' raw e ≡ m.later [] Clean
@@ -81,3 +73,20 @@ put_both {d} {d1} out out1 p p' {given} {more} {x} few same kept part less whole
     ap (λ (t : Bytes). a ++ t) behind ∙ sym (append_assoc a b (drop (given + more) out)) ∙ ap (λ (t : Bytes). t ++ drop (given + more) out) (sym bytes) ∙ ap (λ (n : ℕ). d.bytes ++ drop n out) (sym count) in
     ap (λ (n : ℕ). ((n, x), put_mid given (length out1 - given) out1 p')) (sym count) ∙ ap (λ (e : End). ((length d.bytes, e), put_mid given (length out1 - given) out1 p')) (sym ending)
     ∙ ap (λ (t : Bytes). ((length d.bytes, d.ending), t)) buffer
+
+-- the buffer was full before the end had set all its bytes free
+pub full_both : {d : Decoded} (d1 : Decoded) (out out1 p p' : Bytes) {given : ℕ} → given ≤ length out → length out1 ≡ length out
+    → p ≡ drop given out1 → d ≡ prefixed (take given out1) d1 → length p < length d1.bytes → p' ≡ take (length p) d1.bytes
+    → (length out < length d.bytes) × (put_mid given (length out1 - given) out1 p' ≡ take (length out) d.bytes)
+full_both {d} d1 out out1 p p' {given} few same part first more filled =
+    let a = take given out1 in
+    let la = length-take-le given out1 (omega arith) in
+    let bytes : d.bytes ≡ a ++ d1.bytes = ap (λ (k : Decoded). k.bytes) first in
+    let lp = ap length part ∙ length-drop given out1 in
+    let long = ap length bytes ∙ length-append a d1.bytes in
+    let all : length a + length p ≡ length out = omega (arith, la, lp) in
+    let behind : p' ++ post_of given (length out1 - given) out1 ≡ p' =
+    ap (λ (t : Bytes). p' ++ t) (drop_all (length out1 - given) (drop given out1) (omega (arith, length-drop given out1))) ∙ append-nil p' in (
+      omega (arith, all, long),
+      ap (λ (t : Bytes). a ++ t) (behind ∙ filled) ∙ sym (take-append-add a d1.bytes (length p)) ∙ ap (λ (n : ℕ). take n (a ++ d1.bytes)) all ∙ ap (take (length out)) (sym bytes),
+    )

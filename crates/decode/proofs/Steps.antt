@@ -1,7 +1,7 @@
 -- What feeds leave of a body and a buffer.
 use Rattle.std.proofs.Common.{◌≡◌, ℕ, ◌+◌, ◌-◌, ◌<◌, ◌≤◌, ◌⊎◌, inl, inr, [], ◌∷◌, ◌++◌, length, take, drop, refl, sym, ap, ◌∙◌, arith, take-add}
 use borrow.Rule.Slice.PartMut.{put_mid, post_of}
-use Rattle.std.proofs.lemmas.List.{append-nil, length-append, length-take-le, length-drop, drop_at, take_rest, drop-drop, drop_all}
+use Rattle.std.proofs.lemmas.List.{append-nil, length-append, length-take-le, length-drop, drop_at, take_at, take_rest, take-append-drop, drop-drop, drop_all}
 use Rattle.std.proofs.lemmas.Slice.{take-put_mid_below}
 use Rattle.byte_lines.specs.Bytes.{Bytes}
 use Rattle.source.specs.declared.ends.End.{End}
@@ -55,31 +55,46 @@ fed {m0} {m} {m'} {raw} {out} {out1} {s} {from} {to} {taken} {given} r same size
           ∙ ap (λ (t : Bytes). prefixed t later) (sym (take-add to given out2 ∙ ap (λ (t : Bytes). t ++ fresh) before));
     }
 
--- there is room for what waits
-ready_room : {m0 m : Meaning} {raw out out' : Bytes} {from to : ℕ} → SoFar m0 m raw from out out' to → length out' ≡ length out
-    → length (outlook m0 raw Clean).bytes ≤ length out → to + length m.ready ≤ length out
-ready_room {m0} {m} {raw} {out} {out'} {from} {to} r same room =
-    let later = (m.later (drop from raw ++ []) Clean).bytes in
-    let g = r.gave in
-    let first = length-take-le to out' (omega arith) in
-    let all = ap (λ (t : Bytes). length (outlook m0 t Clean).bytes) (sym (append-nil raw)) ∙ ap (λ (d : Decoded). length d.bytes) (r.whole [] Clean) in
-    omega (arith, length-append (take to out') (m.ready ++ later), length-append m.ready later)
+no_bytes : (t : Bytes) → length t ≡ 0 → t ≡ []
+no_bytes [] e = refl
+no_bytes (b ∷ bs) e = absurd (omega (arith, e))
 
--- while a raw byte is left or a decoded byte waits, a feed takes or gives one
-pub moves : {m0 m m' : Meaning} {raw out out1 s : Bytes} {from to taken given : ℕ} → SoFar m0 m raw from out out1 to → length out1 ≡ length out
-    → length raw ≤ limit - m0.place → length (outlook m0 raw Clean).bytes ≤ length out
+-- a feed that takes and gives nothing, where a raw byte is left or a decoded byte waits, finds the buffer full
+pub stuck : {m0 m m' : Meaning} {raw out out1 s : Bytes} {from to taken given : ℕ} → SoFar m0 m raw from out out1 to → length out1 ≡ length out
+    → length s ≡ length (take (length out1 - to) (drop to out1))
+    → length raw ≤ limit - m0.place
     → Feeds m (take (length raw - from) (drop from raw)) (take (length out1 - to) (drop to out1)) taken given m' s
-    → (from < length raw) ⊎ (0 < length m.ready) → 0 < taken + given
-moves {m0} {m} {m'} {raw} {out} {out1} {s} {from} {to} {taken} {given} r same short room f left = go m.ready refl left
+    → (from < length raw) ⊎ (0 < length m.ready) → taken + given ≡ 0
+    → (length out < length (outlook m0 raw Clean).bytes) × (put_mid to (length out1 - to) out1 s ≡ take (length out) (outlook m0 raw Clean).bytes)
+stuck {m0} {m} {m'} {raw} {out} {out1} {s} {from} {to} {taken} {given} r same size short f left none = go m.ready refl left
   where
-    go : (w : Bytes) → m.ready ≡ w → (from < length raw) ⊎ (0 < length m.ready) → 0 < taken + given
+    later : Bytes
+    later = (m.later (drop from raw ++ []) Clean).bytes
+
+    all : (outlook m0 raw Clean).bytes ≡ take to out1 ++ (m.ready ++ later)
+    all = ap (λ (t : Bytes). (outlook m0 t Clean).bytes) (sym (append-nil raw)) ∙ ap (λ (d : Decoded). d.bytes) (r.whole [] Clean)
+
+    go : (w : Bytes) → m.ready ≡ w → (from < length raw) ⊎ (0 < length m.ready)
+        → (length out < length (outlook m0 raw Clean).bytes) × (put_mid to (length out1 - to) out1 s ≡ take (length out) (outlook m0 raw Clean).bytes)
     go [] e (inl x) =
         let p = r.place in
         let t = f.goes e (omega (arith, ap length (take_rest raw from), length-drop from raw)) (omega arith) in
-        omega arith
+        absurd (omega arith)
     go [] e (inr x) = absurd (omega (arith, ap length e))
     go (b ∷ bs) e x =
         let n = ap length e in
-        let h = ready_room r same room in
         let w = f.waits (omega arith) in
-        omega (arith, w.1, ap length (take_rest out1 to), length-drop to out1)
+        let g = r.gave in
+        let lo = ap length (take_rest out1 to) ∙ length-drop to out1 in
+        let full : to ≡ length out = omega (arith, w.1, lo) in
+        let empty : length s ≡ 0 = omega (arith, size, lo) in
+        let out2 = put_mid to (length out1 - to) out1 s in
+        let front = length-take-le to out1 (omega arith) in
+        let before : take to out2 ≡ take to out1 = take-put_mid_below to (length out1 - to) out1 s to (omega arith) (omega arith) in
+        let back : drop to out2 ≡ [] = part_back to out1 s (omega arith) ∙ no_bytes s empty in
+        let now : out2 ≡ take to out1 =
+        sym (take-append-drop to out2) ∙ ap (λ (t : Bytes). take to out2 ++ t) back ∙ append-nil (take to out2) ∙ before in
+        let long = ap length all ∙ length-append (take to out1) (m.ready ++ later) in (
+          omega (arith, long, length-append m.ready later),
+          now ∙ sym (take_at (take to out1) (m.ready ++ later) (length out) (front ∙ full)) ∙ ap (take (length out)) (sym all),
+        )
