@@ -1,7 +1,7 @@
 -- What feeds leave of a body and a buffer.
 use Rattle.std.proofs.Common.{◌≡◌, ℕ, ◌+◌, ◌-◌, ◌<◌, ◌≤◌, ◌⊎◌, inl, inr, [], ◌∷◌, ◌++◌, length, take, drop, refl, sym, ap, ◌∙◌, arith, take-add}
 use borrow.Rule.Slice.PartMut.{put_mid, post_of}
-use Rattle.std.proofs.lemmas.List.{append-nil, length-append, length-take-le, length-drop, drop_at, take_at, take_rest, take-append-drop, drop-drop, drop_all}
+use Rattle.std.proofs.lemmas.List.{nil_from_length, append-nil, length-append, length-take-le, length-drop, drop_at, take_at, take_rest, take-append-drop, drop-drop, drop_all}
 use Rattle.std.proofs.lemmas.Slice.{take-put_mid_below}
 use Rattle.byte_lines.specs.Bytes.{Bytes}
 use Rattle.source.specs.declared.ends.End.{End}
@@ -55,10 +55,6 @@ fed {m0} {m} {m'} {raw} {out} {out1} {s} {from} {to} {taken} {given} r same size
           ∙ ap (λ (t : Bytes). prefixed t later) (sym (take-add to given out2 ∙ ap (λ (t : Bytes). t ++ fresh) before));
     }
 
-no_bytes : (t : Bytes) → length t ≡ 0 → t ≡ []
-no_bytes [] e = refl
-no_bytes (b ∷ bs) e = absurd (omega (arith, e))
-
 -- a feed that takes and gives nothing, where a raw byte is left or a decoded byte waits, finds the buffer full
 pub stuck : {m0 m m' : Meaning} {raw out out1 s : Bytes} {from to taken given : ℕ} → SoFar m0 m raw from out out1 to → length out1 ≡ length out
     → length s ≡ length (take (length out1 - to) (drop to out1))
@@ -91,7 +87,7 @@ stuck {m0} {m} {m'} {raw} {out} {out1} {s} {from} {to} {taken} {given} r same si
         let out2 = put_mid to (length out1 - to) out1 s in
         let front = length-take-le to out1 (omega arith) in
         let before : take to out2 ≡ take to out1 = take-put_mid_below to (length out1 - to) out1 s to (omega arith) (omega arith) in
-        let back : drop to out2 ≡ [] = part_back to out1 s (omega arith) ∙ no_bytes s empty in
+        let back : drop to out2 ≡ [] = part_back to out1 s (omega arith) ∙ nil_from_length s empty in
         let now : out2 ≡ take to out1 =
         sym (take-append-drop to out2) ∙ ap (λ (t : Bytes). take to out2 ++ t) back ∙ append-nil (take to out2) ∙ before in
         let long = ap length all ∙ length-append (take to out1) (m.ready ++ later) in (

@@ -1,5 +1,5 @@
 -- A whole body, decoded into a buffer. Assumes nothing.
-use Rattle.std.specs.Prelude.{◌≡◌, ℕ, ◌<◌, ◌≤◌, true, false, [], ◌++◌, length, take, drop, Some, None, Option, Ok, Err, Result, nat_le}
+use Rattle.std.specs.Prelude.{◌≡◌, ℕ, ◌<◌, ◌≤◌, true, false, [], ◌++◌, length, take, drop, Some, None, Option, Ok, Err, codes, decimal, Result, nat_le}
 use Rattle.byte_lines.specs.Bytes.{Bytes}
 use Rattle.source.specs.declared.ends.End.{End}
 use Rattle.source.specs.declared.ends.End.TheVariants.{Clean}
@@ -37,3 +37,8 @@ wholly coding raw old =
       ]
       | false ↦ (Err TooLong, old)
     ]
+
+-- how a refusal is printed
+abbrev pub unfit_text : Unfit → Bytes
+unfit_text TooLong = codes "a body of more than " ++ (decimal limit ++ codes " bytes")
+unfit_text NoRoom = codes "a buffer too short for the decoded body"

@@ -1,11 +1,11 @@
-ghost use Rattle.std.specs.Prelude.{◌≡◌, ℕ, ◌-◌, ◌≤◌, [], ◌++◌, length, take, drop};
+ghost use Rattle.std.specs.Prelude.{◌≡◌, ℕ, ◌-◌, ◌≤◌, [], ◌++◌, length, take, drop, Some};
 ghost use Rattle.byte_lines.specs.Bytes.{Bytes};
 ghost use Rattle.source.specs.declared.ends.End.{End as Ending};
 ghost use Rattle.source.specs.declared.ends.End.TheVariants.{Clean};
 ghost use Rattle.coding.specs.Codings.{decoded};
 ghost use Rattle.coding.specs.Decoding.{prefixed};
 ghost use Rattle.coding.specs.Decoders.{limit, meaning, outlook};
-ghost use Rattle.decode.specs.Wholes.{FedAll, Within, wholly};
+ghost use Rattle.decode.specs.Wholes.{FedAll, Within, wholly, unfit_text};
 
 use coding::{Coding, Decoder};
 use source::End;
@@ -25,6 +25,8 @@ pub enum Unfit {
 }
 
 impl fmt::Display for Unfit {
+    ghost output = { λ u. Some (unfit_text u) };
+
     fn fmt<W: fmt::Write>(&self, f: &mut fmt::Formatter<W>) -> fmt::Result {
         match self {
             Unfit::TooLong => write!(f, "a body of more than {LONGEST} bytes"),

@@ -28,7 +28,7 @@ fn deeper(fit: Fit) -> Fit
     }
 }
 
-/// What a line closes of the open groups: the innermost, with that mark, and where the reader stands then.
+/// How a line closes the innermost open group: the mark that its closing has, and where the reader stands then.
 fn closing(fit: Fit, at: u32) -> (u32, Stage)
     ensures { result ≡ closing_by fit at }
 {
@@ -121,7 +121,7 @@ impl<S: Source> Reader<S> {
         self.turn();
     }
 
-    /// A separator of the innermost group stands before a head.
+    /// Stands before a head, where the line at hand separates two entities of the innermost group.
     fn turn(&mut self)
         requires body { self.old.stage ≢ InBody }
         requires between { self.old.stage ≢ IsBetween }
