@@ -35,12 +35,13 @@ pub(crate) trait Coder {
         ensures whole { (at : ℕ) (q : Bytes) (e : Ending) → later self.now at (raw.now ++ q) e ≡ prefixed (take result.given out.new) (later self.now (at + result.taken) (drop result.taken raw.now ++ q) e) }
         ensures fewer { result.given ≤ result.taken };
 
-    /// Takes the raw byte at the offset `at`: how it goes on, and what it sets free.
-    fn step(&mut self, at: u32, b: u8) -> (Flow, Ready)
+    /// Takes the raw byte at the offset `at`: how it goes on. What it sets free is put in place of what was ready.
+    // No answer of both: copies of what is ready made a byte dearer by half.
+    fn step(&mut self, at: u32, b: u8, ready: &mut Ready) -> Flow
         requires { held self.old ≤ at }
-        ensures whole { (q : Bytes) (e : Ending) → later self.old at (b ∷ q) e ≡ prefixed (items result.1) (flowing result.0 (later self.new (at + 1)) q e) }
+        ensures whole { (q : Bytes) (e : Ending) → later self.old at (b ∷ q) e ≡ prefixed (items ready.new) (flowing result (later self.new (at + 1)) q e) }
         ensures behind { held self.new ≤ at + 1 }
-        ensures fewer { length (items result.1) + still_held result.0 (backlog self.new) ≤ backlog self.old + 1 };
+        ensures fewer { length (items ready.new) + still_held result (backlog self.new) ≤ backlog self.old + 1 };
 
     /// The raw body ends at the offset `at`: the decoded body's end, and what is set free.
     fn finish(&self, at: u32, end: End) -> (End, Ready)

@@ -13,7 +13,7 @@ use std::error::Error;
 use std::fmt;
 
 /// No input is longer.
-const LONGEST: usize = 16_777_216;
+pub(crate) const LONGEST: usize = 16_777_216;
 
 /// Why a body is not decoded.
 #[derive(Clone, Copy, PartialEq, Eq, Debug)]

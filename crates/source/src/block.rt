@@ -1,4 +1,4 @@
-ghost use Rattle.std.specs.Prelude.{◌≡◌};
+ghost use Rattle.std.specs.Prelude.{◌≡◌, length, ◌==◌};
 ghost use Rattle.source.specs.declared.ends.End.TheVariants.{Clean};
 ghost use Rattle.source.specs.Meanings.{Pulls, answer, means};
 ghost use Rattle.source.specs.Slices.{block_meaning, most};
@@ -17,6 +17,13 @@ impl<'a> Block<'a> {
         ensures { block_meaning result ≡ means bytes.now Clean }
     {
         Block { rest: bytes }
+    }
+
+    /// Whether all was given.
+    pub(crate) fn is_empty(&self) -> bool
+        ensures { result ≡ (length self.now.rest.now == 0) }
+    {
+        self.rest.is_empty()
     }
 }
 

@@ -64,6 +64,13 @@ impl Source for Parcels<'_> {
         ensures pulls { Pulls (parcels_meaning self.old) buffer.old (answer result) (parcels_meaning self.new) buffer.new }
         ensures keeps { (answer result, parcels_left self.new) ≡ portion (length buffer.old) (parcels_left self.old) }
     {
+        if buffer.is_empty() {
+            return Ok(0);
+        }
+        if self.block.is_empty() {
+            return Err(End::Clean);
+        }
+        // Not before these tests: each is answered without a look at the lengths, however many of them are zero.
         self.go_on();
         let room = self.left.min(buffer.len());
         let n = self.block.pull(&mut buffer[0..room])?;

@@ -68,13 +68,17 @@ impl Coder for Base64 {
     }
 
     #[tactic(auto, using(crate::proofs::Base64Steps::step_equals, crate::proofs::Base64Steps::from_ignored, crate::proofs::Base64Steps::from_character, crate::proofs::Base64Steps::from_fourth, crate::proofs::Base64Steps::octets_fewer))]
-    fn step(&mut self, at: u32, b: u8) -> (Flow, Ready) {
+    fn step(&mut self, at: u32, b: u8, ready: &mut Ready) -> Flow {
+        ready.clear();
         let Some(v) = sextet_of(b) else {
-            return match (b, self.close()) {
-                (b'=', Some(ready)) => (Flow::Spent, ready),
-                (b'=', None) => (Flow::Ended(Flaw::LeftOver.at(at)), Ready::new()),
-                _ => (Flow::On, Ready::new()),
+            if b != b'=' {
+                return Flow::On;
+            }
+            let Some(last) = self.close() else {
+                return Flow::Ended(Flaw::LeftOver.at(at));
             };
+            *ready = last;
+            return Flow::Spent;
         };
         match self.held {
             Sextets::None => self.held = Sextets::One(v),
@@ -82,10 +86,10 @@ impl Coder for Base64 {
             Sextets::Two(x, y) => self.held = Sextets::Three(x, y, v),
             Sextets::Three(x, y, z) => {
                 self.held = Sextets::None;
-                return (Flow::On, Ready::of(&bytes_of(x, y, z, v)));
+                ready.set(&bytes_of(x, y, z, v));
             }
         }
-        (Flow::On, Ready::new())
+        Flow::On
     }
 
     #[tactic(auto, using(crate::proofs::Base64Steps::from_end))]

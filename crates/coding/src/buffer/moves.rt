@@ -26,6 +26,15 @@ impl<const N: usize> Buffer<N> {
         }
     }
 
+    /// Has these bytes then, in place of its own.
+    pub(crate) fn set(&mut self, bytes: &[u8])
+        requires { length bytes.now ≤ N }
+        ensures { items self.new ≡ bytes.now }
+    {
+        self.all[..bytes.len()].copy_from_slice(bytes);
+        self.len = bytes.len();
+    }
+
     pub(crate) fn as_slice(&self) -> &[u8]
         ensures { result.now ≡ items self.now }
     {

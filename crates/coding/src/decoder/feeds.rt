@@ -56,13 +56,11 @@ impl Decoder {
             self.at += fed.taken as u32;
             return fed;
         }
-        let (flow, ready) = self.mode.step(self.at, *b);
-        match flow {
+        match self.mode.step(self.at, *b, &mut self.ready) {
             Flow::On => {}
             Flow::Spent => self.mode = Mode::Spent,
             Flow::Ended(end) => self.mode = Mode::Ended(end),
         }
-        self.ready = ready;
         self.at += 1;
         Fed { taken: 1, given: 0 }
     }

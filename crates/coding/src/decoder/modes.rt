@@ -50,13 +50,14 @@ impl Coder for Mode {
         }
     }
 
-    fn step(&mut self, at: u32, b: u8) -> (Flow, Ready) {
+    fn step(&mut self, at: u32, b: u8, ready: &mut Ready) -> Flow {
         match self {
-            Mode::Plain => (Flow::On, Ready::of(&[b])),
-            Mode::Base64(coder) => coder.step(at, b),
-            Mode::Quoted(coder) => coder.step(at, b),
-            Mode::Spent | Mode::Ended(_) => (Flow::On, Ready::new()),
+            Mode::Plain => ready.set(&[b]),
+            Mode::Base64(coder) => return coder.step(at, b, ready),
+            Mode::Quoted(coder) => return coder.step(at, b, ready),
+            Mode::Spent | Mode::Ended(_) => ready.clear(),
         }
+        Flow::On
     }
 
     fn finish(&self, at: u32, end: End) -> (End, Ready) {

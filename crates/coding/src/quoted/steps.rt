@@ -40,14 +40,13 @@ impl Quoted {
         self.kind = Kind::Blanks { soft: false };
     }
 
-    /// What is held back, as it is; nothing is held back then.
-    fn release(&mut self) -> Ready
-        ensures given { items result ≡ items self.old.held }
+    /// Puts what is held back, as it is, in place of what was ready; nothing is held back then.
+    fn release(&mut self, ready: &mut Ready)
+        ensures given { items ready.new ≡ items self.old.held }
         ensures none { items self.new.held ≡ [] }
     {
-        let ready = Ready::of(self.held.as_slice());
+        ready.set(self.held.as_slice());
         self.clear();
-        ready
     }
 }
 
@@ -95,62 +94,47 @@ impl Coder for Quoted {
         }
     }
 
-    fn step(&mut self, at: u32, b: u8) -> (Flow, Ready) {
+    fn step(&mut self, at: u32, b: u8, ready: &mut Ready) -> Flow {
+        ready.clear();
         match (self.kind, b) {
             (Kind::Digit, b'0'..=b'9' | b'A'..=b'F' | b'a'..=b'f') => {
                 let held = self.held.as_slice();
                 let byte = escaped(held[1], b).unwrap();
                 self.clear();
-                (Flow::On, Ready::of(&[byte]))
+                ready.set(&[byte]);
             }
             (Kind::Blanks { soft: true }, b'0'..=b'9' | b'A'..=b'F' | b'a'..=b'f')
-                if self.held.len() == 1 => {
-                self.hold(b, Kind::Digit);
-                (Flow::On, Ready::new())
-            }
-            (Kind::Cr { soft: true }, b'\n') => {
-                self.clear();
-                (Flow::On, Ready::new())
-            }
+                if self.held.len() == 1 => self.hold(b, Kind::Digit),
+            (Kind::Cr { soft: true }, b'\n') => self.clear(),
             (Kind::Cr { soft: false }, b'\n') => {
                 self.clear();
-                (Flow::On, Ready::of(b"\r\n"))
+                ready.set(b"\r\n");
             }
             (Kind::Blanks { soft }, b' ' | b'\t')
                 if self.held.len() == MOST_BLANKS + usize::from(soft) => {
-                let end = Flaw::TooManyBlanks.at(at - MOST_BLANKS as u32);
-                let equals = &self.held.as_slice()[..usize::from(soft)];
-                (Flow::Ended(end), Ready::of(equals))
+                ready.set(&self.held.as_slice()[..usize::from(soft)]);
+                return Flow::Ended(Flaw::TooManyBlanks.at(at - MOST_BLANKS as u32));
             }
-            (Kind::Blanks { soft }, b' ' | b'\t') => {
-                self.hold(b, Kind::Blanks { soft });
-                (Flow::On, Ready::new())
-            }
-            (Kind::Blanks { soft }, b'\r') => {
-                self.hold(b, Kind::Cr { soft });
-                (Flow::On, Ready::new())
-            }
+            (Kind::Blanks { soft }, b' ' | b'\t') => self.hold(b, Kind::Blanks { soft }),
+            (Kind::Blanks { soft }, b'\r') => self.hold(b, Kind::Cr { soft }),
             (_, b'=') => {
-                let ready = self.release();
+                self.release(ready);
                 self.hold(b, Kind::Blanks { soft: true });
-                (Flow::On, ready)
             }
             (_, b' ' | b'\t') => {
-                let ready = self.release();
+                self.release(ready);
                 self.hold(b, Kind::Blanks { soft: false });
-                (Flow::On, ready)
             }
             (_, b'\r') => {
-                let ready = self.release();
+                self.release(ready);
                 self.hold(b, Kind::Cr { soft: false });
-                (Flow::On, ready)
             }
             (_, _) => {
-                let mut ready = self.release();
+                self.release(ready);
                 ready.push(b);
-                (Flow::On, ready)
             }
         }
+        Flow::On
     }
 
     /// Gives what is held back, but for blanks and an `=` before them.

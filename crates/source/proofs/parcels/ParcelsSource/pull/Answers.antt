@@ -1,11 +1,18 @@
-use Rattle.std.proofs.Common.{◌≡◌, ◌-◌, min, ◌∷◌, ◌++◌, length, take, drop, ap, subst, ◌∙◌, arith, rules}
+use Rattle.std.proofs.Common.{◌≡◌, ◌-◌, ◌<◌, min, ◌∷◌, ◌++◌, length, take, drop, ap, subst, ◌∙◌, arith, rules}
 use Rattle.std.proofs.lemmas.List.{length-take-le}
 use Rattle.source.specs.declared.block.Block.{Block}
 use Rattle.source.specs.Meanings.{Pulls, gave}
 use Rattle.source.specs.Slices.{block_meaning, portion}
 use Rattle.source.proofs.Pulling.{told, pulls_front}
-use Rattle.source.proofs.Cuts.{portioned, portion-ended}
+use Rattle.source.proofs.Cuts.{cut_end, portioned, portion-ended}
 use Rattle.source.proofs.parcels.ParcelsSource.pull.Goals as goal
+
+pub returns-then-is_empty-2-clause-keeps : goal.returns-then-is_empty-2-clause-keeps
+returns-then-is_empty-2-clause-keeps c =
+    let s = c.args.self.now in
+    let none : length s.block.rest.now ≡ 0 = search rules in
+    let room : 0 < length c.args.buffer.now = search rules in
+    cut_end (s.left ∷ s.lengths.now) s.block.rest.now (length c.args.buffer.now) none room
 
 pub returns-in_err-n-clause-keeps : goal.returns-in_err-n-clause-keeps
 returns-in_err-n-clause-keeps c =

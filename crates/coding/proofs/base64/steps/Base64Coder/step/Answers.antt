@@ -1,13 +1,13 @@
 use Rattle.std.proofs.Common.{[], ◌∷◌, sym}
 use Rattle.coding.proofs.Base64Steps.{from_character}
 use Rattle.coding.proofs.base64.steps.Base64Coder.step.Goals as goal
-use Rattle.coding.proofs.base64.steps.Base64Coder.step.Goals.{in-None, in-One, in-Two}
 
-pub returns-clause-whole : goal.returns-clause-whole
-returns-clause-whole c = λ q e.
-    let v = c.in-Some.v in
-    elim c.match-self.branch [
-      | in-None w ↦ rw (w.in-None.is, w.self-is, c.new-2.ensures) (from_character [] c.args.at c.args.b v q e (sym c.in-Some.ensures))
-      | in-One w ↦ rw (w.in-One.is, w.self-is, c.new-2.ensures) (from_character (w.in-One.x ∷ []) c.args.at c.args.b v q e (sym c.in-Some.ensures))
-      | in-Two w ↦ rw (w.in-Two.is, w.self-is, c.new-2.ensures) (from_character (w.in-Two.x ∷ (w.in-Two.y ∷ [])) c.args.at c.args.b v q e (sym c.in-Some.ensures))
-    ]
+pub returns-in-None-clause-whole : goal.returns-in-None-clause-whole
+returns-in-None-clause-whole c = λ q e. rw (c.in-None.is, c.clear.ensures) (from_character [] c.args.at c.args.b c.in-Some.v q e (sym c.in-Some.ensures))
+
+pub returns-in-One-clause-whole : goal.returns-in-One-clause-whole
+returns-in-One-clause-whole c = λ q e. rw (c.in-One.is, c.clear.ensures) (from_character (c.in-One.x ∷ []) c.args.at c.args.b c.in-Some.v q e (sym c.in-Some.ensures))
+
+pub returns-in-Two-clause-whole : goal.returns-in-Two-clause-whole
+returns-in-Two-clause-whole c =
+    λ q e. rw (c.in-Two.is, c.clear.ensures) (from_character (c.in-Two.x ∷ (c.in-Two.y ∷ [])) c.args.at c.args.b c.in-Some.v q e (sym c.in-Some.ensures))

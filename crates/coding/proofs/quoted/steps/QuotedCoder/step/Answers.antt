@@ -45,26 +45,26 @@ pub returns-in-Digit-48-to-57-clause-whole : goal.returns-in-Digit-48-to-57-clau
 returns-in-Digit-48-to-57-clause-whole c =
     let h = items c.args.self.now.held in
     let byte : byte_of (hex (get_or h 1 0)) (hex c.args.b) ≡ Some c.unwrap-byte.result = rw (← c.as_slice-held.ensures) (sym c.escaped.ensures ∙ c.unwrap-byte.ensures) in
-    rw (c.of.ensures, c.clear.ensures) (step_escape h c.args.at c.args.b c.requires (shape_of c.args.self.now Digit c.in-Digit-48-to-57.is-0) c.unwrap-byte.result byte)
+    rw (c.set.ensures, c.clear-in-Digit-48-to-57.ensures) (step_escape h c.args.at c.args.b c.requires (shape_of c.args.self.now Digit c.in-Digit-48-to-57.is-0) c.unwrap-byte.result byte)
 
 -- line breaks -------------------------------------------------------------------------------------
 
 pub returns-in-Cr-true-eq10-clause-whole : goal.returns-in-Cr-true-eq10-clause-whole
 returns-in-Cr-true-eq10-clause-whole c =
     let e : c.args.self.now.kind ≡ Cr true = search rules in
-    rw (c.clear-in-Cr-true-eq10.ensures, c.new-in-Cr-true-eq10.ensures) (step_break (items c.args.self.now.held) c.args.at c.args.b c.requires true (shape_of c.args.self.now (Cr true) e) (search rules))
+    rw (c.clear-in-Cr-true-eq10.ensures, c.clear.ensures) (step_break (items c.args.self.now.held) c.args.at c.args.b c.requires true (shape_of c.args.self.now (Cr true) e) (search rules))
 
 pub returns-in-Cr-false-eq10-clause-whole : goal.returns-in-Cr-false-eq10-clause-whole
 returns-in-Cr-false-eq10-clause-whole c =
     let e : c.args.self.now.kind ≡ Cr false = search rules in
-    rw (c.clear-in-Cr-false-eq10.ensures, c.of-in-Cr-false-eq10.ensures) (step_break (items c.args.self.now.held) c.args.at c.args.b c.requires false (shape_of c.args.self.now (Cr false) e) (search rules))
+    rw (c.clear-in-Cr-false-eq10.ensures, c.set-in-Cr-false-eq10.ensures) (step_break (items c.args.self.now.held) c.args.at c.args.b c.requires false (shape_of c.args.self.now (Cr false) e) (search rules))
 
 pub returns-in-Cr-false-eq10-clause-fewer : goal.returns-in-Cr-false-eq10-clause-fewer
 returns-in-Cr-false-eq10-clause-fewer c =
     let e : c.args.self.now.kind ≡ Cr false = search rules in
     let r = shape_of c.args.self.now (Cr false) e in
     let l = ap length r.is ∙ length-append r.front (13 ∷ []) in
-    let two = ap length c.of-in-Cr-false-eq10.ensures in
+    let two = ap length c.set-in-Cr-false-eq10.ensures in
     let none = ap length c.clear-in-Cr-false-eq10.ensures in
     omega arith
 
@@ -78,7 +78,7 @@ returns-in-Blanks-eq32-clause-whole c =
     let soft = c.in-Blanks-eq32.soft in
     let is = c.in-Blanks-eq32.soft-is in
     let size : length h ≡ 76 + bool_byte soft = omega (arith, ap bool_byte is) in
-    rw (c.of-in-Blanks-eq32.ensures, c.as_slice.ensures, c.at-end.ensures, c.from-in-Blanks-eq32.ensures, is)
+    rw (c.set-in-Blanks-eq32.ensures, c.as_slice.ensures, c.at.ensures, c.from-in-Blanks-eq32.ensures, is)
     (step_fault h c.args.at b c.requires soft (shape_of c.args.self.now (Blanks soft) c.in-Blanks-eq32.is-0) size (is_blank b t))
 
 pub hold-requires-in-Blanks-eq32-2 : goal.hold-requires-in-Blanks-eq32-2
@@ -109,43 +109,43 @@ hold-requires-in-Blanks-eq13 c =
 pub hold-requires-in_default-eq61 : goal.hold-requires-in_default-eq61
 hold-requires-in_default-eq61 c =
     let t : c.args.b ≡ 61 = search rules in
-    alone (Blanks true) c.args.b c.release-ready-in_default-eq61.ensures.none (rw t shape_equals)
+    alone (Blanks true) c.args.b c.release-in_default-eq61.ensures.none (rw t shape_equals)
 
 pub hold-requires-in_default-eq32 : goal.hold-requires-in_default-eq32
 hold-requires-in_default-eq32 c =
     let t : (c.args.b ≡ 32) ⊎ (c.args.b ≡ 9) = search rules in
-    alone (Blanks false) c.args.b c.release-ready-in_default-eq32.ensures.none (shape_blank c.args.b (is_blank c.args.b t))
+    alone (Blanks false) c.args.b c.release-in_default-eq32.ensures.none (shape_blank c.args.b (is_blank c.args.b t))
 
 pub hold-requires-in_default-eq13 : goal.hold-requires-in_default-eq13
 hold-requires-in_default-eq13 c =
     let t : c.args.b ≡ 13 = search rules in
-    alone (Cr false) c.args.b c.release-ready.ensures.none (rw t shape_cr)
+    alone (Cr false) c.args.b c.release.ensures.none (rw t shape_cr)
 
 pub returns-in_default-eq61-clause-whole : goal.returns-in_default-eq61-clause-whole
 returns-in_default-eq61-clause-whole c =
     let s = c.args.self.now in
-    let r = c.release-ready-in_default-eq61.ensures in
+    let r = c.release-in_default-eq61.ensures in
     let loose : Loose s.kind (length (items s.held)) c.args.b = search rules in
     rw (r.given, c.hold-in_default-eq61.ensures, r.none) (step_release (items s.held) c.args.at c.args.b c.requires s.kind (shape_of s s.kind refl) loose)
 
 pub returns-in_default-eq32-clause-whole : goal.returns-in_default-eq32-clause-whole
 returns-in_default-eq32-clause-whole c =
     let s = c.args.self.now in
-    let r = c.release-ready-in_default-eq32.ensures in
+    let r = c.release-in_default-eq32.ensures in
     let loose : Loose s.kind (length (items s.held)) c.args.b = search rules in
     rw (r.given, c.hold-in_default-eq32.ensures, r.none) (step_release (items s.held) c.args.at c.args.b c.requires s.kind (shape_of s s.kind refl) loose)
 
 pub returns-in_default-eq13-clause-whole : goal.returns-in_default-eq13-clause-whole
 returns-in_default-eq13-clause-whole c =
     let s = c.args.self.now in
-    let r = c.release-ready.ensures in
+    let r = c.release.ensures in
     let loose : Loose s.kind (length (items s.held)) c.args.b = search rules in
     rw (r.given, c.hold-in_default-eq13.ensures, r.none) (step_release (items s.held) c.args.at c.args.b c.requires s.kind (shape_of s s.kind refl) loose)
 
 pub returns-in_default-clause-whole : goal.returns-in_default-clause-whole
 returns-in_default-clause-whole c =
     let s = c.args.self.now in
-    let r = c.release-ready-in_default.ensures in
+    let r = c.release-in_default.ensures in
     let loose : Loose s.kind (length (items s.held)) c.args.b = search rules in
     let mere : Mere c.args.b = search rules in
     rw (c.push.ensures, r.given, r.none) (step_literal (items s.held) c.args.at c.args.b c.requires s.kind (shape_of s s.kind refl) loose mere)
