@@ -1,5 +1,5 @@
 -- What the parts of a Content-Type make of it.
-use Rattle.std.proofs.Common.{◌≡◌, ℕ, suc, true, false, List, [], ◌∷◌, length, Some, None, codes, Option, sym, refl, ap, ◌∙◌, Bor}
+use Rattle.std.proofs.Common.{◌≡◌, ℕ, suc, Bool, true, false, List, [], ◌∷◌, length, Some, None, codes, Option, sym, refl, ap, ◌∙◌, arith, Bor}
 use Rattle.std.specs.Option.{option_flatten}
 use Rattle.std.proofs.lemmas.Bool.{and_from, false≢true}
 use Rattle.byte_lines.specs.Bytes.{Bytes}
@@ -7,8 +7,9 @@ use Rattle.byte_lines.specs.Strings.{has, before, after, trim, named}
 use Rattle.head.specs.declared.boundary.Boundary.{Boundary}
 use Rattle.head.specs.BoundaryBytes.{boundary_of}
 use Rattle.head.specs.Entities.{boundaries, boundary}
-use Rattle.head.specs.Media.{token, content, Parameter, parameter_of, parameter, Quote, outside, onto_piece, quote_after, pieces, join_parameter, parameters}
-use Rattle.head.specs.MediaReads.{ends_piece, later_pieces, ends_parameters, found_of, noted}
+use Rattle.head.specs.Media.{token, content, Parameter, parameter_of, parameter, Quote, outside, onto_piece, quote_after, pieces, join_parameter, parameters, media_of, is_type, typed}
+use Rattle.head.specs.Summaries.{Summary, broken, typed_summary, summary}
+use Rattle.head.specs.MediaReads.{ends_piece, later_pieces, multipart_type, ends_parameters, boundary_in, found_of, noted}
 use Rattle.head.proofs.TextScans.{by_test}
 
 pub parameter_is : (s : Bytes) → has 61 s ≡ true → token (before 61 s) ≡ true → parameter s ≡ parameter_of (before 61 s) (content (after 61 s))
@@ -75,6 +76,30 @@ verdict-boundary o p None t = refl
 verdict-boundary o p (Some ps) t =
     let e : boundaries (p ∷ ps) ≡ p.value ∷ boundaries ps = rw (boundaries, t) in
     ap (λ (l : List Bytes). Some (joins o l)) e ∙ ap (λ (b : Option Bytes). Some b) (joins-more o p.value (boundaries ps))
+
+-- the whole, from its type and its parameters' boundary
+abbrev pub summarized : (is_multipart : Bool) → Option (Option Bytes) → Summary
+summarized m None = broken
+summarized m (Some b) = typed_summary m b
+
+summary_of : (t : Bytes) (ps : Option (List Parameter)) → summary (media_of t ps) ≡ summarized (named (codes "multipart") t) (boundary_in ps)
+summary_of t None = refl
+summary_of t (Some ps) = refl
+
+pub summary-broken : (s : Bytes) (ss : List Bytes) → None ≡ multipart_type (trim s) → summary (typed (s ∷ ss)) ≡ broken
+summary-broken s ss e =
+    by_test (is_type (trim s)) (λ t. let g : multipart_type (trim s) ≡ Some (named (codes "multipart") (before 47 (trim s))) = rw (multipart_type, t) in let z : ◌≡◌ {A = ℕ} 0 1 = cc in absurd (omega arith))
+    (λ f. let g : typed (s ∷ ss) ≡ None = rw (typed, f) in ap summary g)
+
+pub summary-typed : (s : Bytes) (ss : List Bytes) (m : Bool) → Some m ≡ multipart_type (trim s) → summary (typed (s ∷ ss)) ≡ summarized m (boundary_in (parameters ss))
+summary-typed s ss m e =
+    by_test (is_type (trim s))
+    (λ t. let k = named (codes "multipart") (before 47 (trim s)) in
+    let g : multipart_type (trim s) ≡ Some k = rw (multipart_type, t) in
+    let q : k ≡ m = cc in
+    let h : typed (s ∷ ss) ≡ media_of (before 47 (trim s)) (parameters ss) = rw (typed, t) in
+    ap summary h ∙ summary_of (before 47 (trim s)) (parameters ss) ∙ ap (λ (b : Bool). summarized b (boundary_in (parameters ss))) q)
+    (λ f. let g : multipart_type (trim s) ≡ None = rw (multipart_type, f) in let z : ◌≡◌ {A = ℕ} 0 1 = cc in absurd (omega arith))
 
 -- how much is left to read, for a loop's measure
 abbrev pub left_of : Option (Bor Bytes) → ℕ

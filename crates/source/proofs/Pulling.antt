@@ -100,6 +100,10 @@ tells m buffer x m' buffer' t =
           ∙ tells_by m.coming m.ending buffer m' buffer' (record { asked = t.asked; none = t.none; is = refl; after = t.after; kept = t.kept });
     }
 
+pub waits : (m : Meaning) (buffer : Bytes) → length buffer ≡ 0 → Pulls m buffer (answer (Ok 0)) m buffer
+waits m [] z = record { chosen = 0; lawful = record { comes = omega arith; fits = omega arith; some = λ s r. absurd (omega arith) }; result = refl }
+waits m (b ∷ bs) z = absurd (omega arith)
+
 -- A pull into a buffer's front, seen from the whole buffer.
 pub front_filled : (k n : ℕ) (d buffer front : Bytes) → n ≤ length (take k buffer) → front ≡ d ++ drop n (take k buffer) → front ++ drop k buffer ≡ d ++ drop n buffer
 front_filled k n d buffer front le e =
