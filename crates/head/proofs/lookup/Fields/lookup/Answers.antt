@@ -9,7 +9,7 @@ pub returns-then-is_some : goal.returns-then-is_some
 returns-then-is_some c =
     let word = c.args.word.now in
     let again = found-again (values_of word c.args.self.now) word c.self.inside.buffer.now c.self.inside.table.now c.loop-record.record-index c.loop-record-test.true c.loop-record.found
-        c.if-is_some.ensures (c.if-is_named.ensures ∙ ap (named word) c.part.ensures) c.loop-record.invariant in
+    c.if-is_some.ensures (c.if-is_named.ensures ∙ ap (named word) c.part.ensures) c.loop-record.invariant in
     search (again)
 
 pub loop-record-preserved : goal.loop-record-preserved
