@@ -16,3 +16,4 @@ pub mod Passing
 pub mod Trims
 pub mod HeadReads
 pub mod Canonical
+pub mod Sayings

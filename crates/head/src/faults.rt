@@ -54,7 +54,7 @@ pub struct FaultAt {
 fn is_name_byte(b: u8) -> bool
     ensures { result ≡ name_byte b }
 {
-    matches!(b, b'!'..=b'9' | b';'..=b'~')
+    matches!(b, b'!'..=b'~') && b != b':'
 }
 
 /// Whether the line is a field line: a name of 1 to 64 bytes, and then ':'.

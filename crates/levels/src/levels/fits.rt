@@ -33,7 +33,7 @@ fn ending(tail: &[u8]) -> Option<Mark>
     match tail {
         [] => Some(Mark::Separator),
         [HYPHEN, HYPHEN] => Some(Mark::Closing),
-        _ => None,
+        [_, ..] => None,
     }
 }
 

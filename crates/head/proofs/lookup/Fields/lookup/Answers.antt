@@ -7,11 +7,10 @@ use Rattle.head.proofs.lookup.Fields.lookup.Goals.{then-is_named+else-is_some, e
 
 pub returns-then-is_some : goal.returns-then-is_some
 returns-then-is_some c =
-    let word = c.args.word.now in (
-      refl,
-      found-again (values_of word c.args.self.now) word c.self.inside.buffer.now c.self.inside.table.now c.loop-record.record-index c.loop-record-test.true c.loop-record.found
-          c.if-is_some.ensures (c.if-is_named.ensures ∙ ap (named word) c.part.ensures) c.loop-record.invariant,
-    )
+    let word = c.args.word.now in
+    let again = found-again (values_of word c.args.self.now) word c.self.inside.buffer.now c.self.inside.table.now c.loop-record.record-index c.loop-record-test.true c.loop-record.found
+    c.if-is_some.ensures (c.if-is_named.ensures ∙ ap (named word) c.part.ensures) c.loop-record.invariant in
+    search (again)
 
 pub loop-record-preserved : goal.loop-record-preserved
 loop-record-preserved c =
