@@ -1,4 +1,4 @@
-use Rattle.std.proofs.Common.{refl, ap, ◌∙◌}
+use Rattle.std.proofs.Common.{ap, ◌∙◌}
 use Rattle.byte_lines.specs.Strings.{named}
 use Rattle.head.specs.Fields.{values_of}
 use Rattle.head.proofs.Founds.{found_first, found-again, found-past, found_all}
